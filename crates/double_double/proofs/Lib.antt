@@ -1,0 +1,2 @@
+pub mod Commutes
+pub mod Meanings

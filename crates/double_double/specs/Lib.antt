@@ -1,0 +1,4 @@
+pub mod Pairs
+pub mod Ops
+pub mod Plain
+pub mod Fused

@@ -1,0 +1,100 @@
+// The branch with fma, its multiply-add in integer code.
+use crate::arithmetic::Arithmetic;
+use crate::double_double::DoubleDouble;
+use crate::plain;
+ghost use mathlib.Core.Path.{_≡_};
+ghost use Rattle.double_double.specs.Fused.{bounded, reaches, fusedDomain, fusedMultiplyAdd, fusedProduct, fusedOps};
+use std::num::f64_from_bits_with_nan;
+
+#[derive(Clone, Copy, Drop)]
+pub struct Fused;
+
+// Finite and at most 2^400 in size.
+fn is_bounded(x: f64) -> bool
+    ensures { λ r. ⌜ r ≡ bounded x ⌝ }
+{
+    x.abs() <= f64_from_bits_with_nan(0x58f0000000000000)
+}
+
+// |a * b| is at least 2^-960. Where the rounded product is 2^-960 itself, what it lost decides.
+fn product_reaches(a: f64, b: f64) -> bool
+    ensures { λ r. ⌜ r ≡ reaches a b ⌝ }
+{
+    let least = f64_from_bits_with_nan(0x03f0000000000000);
+    let size = (a * b).abs();
+    if least < size {
+        return true;
+    }
+    if least == size {
+        // 2^480, so that nothing that was lost lies below the smallest f64
+        let up = f64_from_bits_with_nan(0x5df0000000000000);
+        let p = plain::from_exact_mult(a.abs() * up, b.abs() * up);
+        return 0.0 <= p.lo;
+    }
+    false
+}
+
+// Where the multiply-add rounds once.
+fn in_fused_domain(a: f64, b: f64, c: f64) -> bool
+    ensures { λ r. ⌜ r ≡ fusedDomain a b c ⌝ }
+{
+    is_bounded(a)
+        && is_bounded(b)
+        && is_bounded(c)
+        && (a == 0.0 || b == 0.0 || product_reaches(a, b))
+        && (c == 0.0 || f64_from_bits_with_nan(0x03f0000000000000) <= c.abs())
+}
+
+// a * b + c, rounded once in its domain.
+pub fn f_fmla(a: f64, b: f64, c: f64) -> f64
+    ensures { λ r. ⌜ r ≡ fusedMultiplyAdd a b c ⌝ }
+{
+    if in_fused_domain(a, b, c) {
+        a.mul_add(b, c)
+    } else {
+        plain::dd_f64_mul_add(a, b, c)
+    }
+}
+
+fn from_exact_mult(a: f64, b: f64) -> DoubleDouble
+    ensures { λ r. ⌜ r ≡ fusedProduct a b ⌝ }
+{
+    let r_hi = a * b;
+    let r_lo = f_fmla(a, b, -r_hi);
+    DoubleDouble::new(r_lo, r_hi)
+}
+
+pub impl Arithmetic for Fused as FusedArithmetic {
+    // 20
+    const COMPARED_BELOW: u64 = 0x4034000000000000;
+
+    ghost comparisonEnd = { 0x4034000000000000 };
+
+    ghost ops = { fusedOps };
+
+    fn comparison_end() -> u64 {
+        Self::COMPARED_BELOW
+    }
+
+    fn from_exact_mult(&mut self, a: f64, b: f64) -> DoubleDouble {
+        from_exact_mult(a, b)
+    }
+
+    fn quick_mult(&mut self, a: DoubleDouble, b: DoubleDouble) -> DoubleDouble {
+        let mut r = from_exact_mult(a.hi, b.hi);
+        let t1 = f_fmla(a.hi, b.lo, r.lo);
+        let t2 = f_fmla(a.lo, b.hi, t1);
+        r.lo = t2;
+        r
+    }
+
+    fn quick_mult_f64(&mut self, a: DoubleDouble, b: f64) -> DoubleDouble {
+        let h = b * a.hi;
+        let l = f_fmla(b, a.lo, f_fmla(b, a.hi, -h));
+        DoubleDouble { lo: l, hi: h }
+    }
+
+    fn dd_fmla(&mut self, a: f64, b: f64, c: f64) -> f64 {
+        f_fmla(a, b, c)
+    }
+}

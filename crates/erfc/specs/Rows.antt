@@ -1,0 +1,36 @@
+-- The row that serves an argument. Definitions only.
+use Prim.Native.Nat.{ℕ, _+_, _≤_, _<_}
+use mathlib.Core.Path.{_≡_}
+use mathlib.Core.Bool.{cond}
+use mathlib.Core.List.{List, [], _∷_}
+use lib.Ieee.{Float, binary64, ofBits, lt}
+use Rattle.tables.specs.Erfc.{fastThresholds, accurateThresholds}
+
+-- the place of the first threshold that is at least y; their count if there is none
+abbrev pub firstNotBelow : List ℕ → Float → ℕ
+firstNotBelow [] y = 0
+firstNotBelow (t ∷ ts) y = cond (lt (ofBits binary64 t) y) (1 + firstNotBelow ts y) 0
+
+-- the rows for y, the f64 nearest to 1/x
+abbrev pub fastRow : Float → ℕ
+fastRow y = firstNotBelow fastThresholds y
+
+abbrev pub accurateRow : Float → ℕ
+accurateRow y = firstNotBelow accurateThresholds y
+
+-- the first bits of the tail, the first where no fast step runs, and the first above the tail
+abbrev pub tailFirst : ℕ
+tailFirst = 0x400713786d9c7c0a
+
+abbrev pub fastEnd : ℕ
+fastEnd = 0x4039db1bb14e15ca
+
+abbrev pub tailEnd : ℕ
+tailEnd = 0x403b39dc41e48bfd
+
+-- x is a tail argument with bits below end
+pub record Argument (x : Float) (end : ℕ) : Type 0 where
+  pub bits : ℕ
+  pub is : x ≡ ofBits binary64 bits
+  pub first : tailFirst ≤ bits
+  pub below : bits < end

@@ -1,0 +1,2 @@
+pub mod erf;
+pub mod erfc;

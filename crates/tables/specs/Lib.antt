@@ -1,0 +1,2 @@
+pub mod Erfc
+pub mod Exp

@@ -1,0 +1,3 @@
+// The constant tables of the port.
+pub mod err;
+pub mod exponents;
