@@ -5,7 +5,7 @@ use Rattle.double_double.specs.declared.plain.Plain.{Plain}
 use Rattle.double_double.specs.Pairs.{dekker, pairPlusNumber, roundedSum}
 use Rattle.double_double.specs.Ops.{Ops}
 
-unfoldable pub plainProduct : Float → Float → DoubleDouble
+abbrev pub plainProduct : Float → Float → DoubleDouble
 plainProduct a b = dekker a b
 
 abbrev pub plainPairTimesPair : DoubleDouble → DoubleDouble → DoubleDouble

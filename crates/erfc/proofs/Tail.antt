@@ -12,9 +12,8 @@ use Rattle.ieee.specs.Whole.{Whole}
 use Rattle.double_double.specs.declared.double_double.DoubleDouble.{DoubleDouble}
 use Rattle.double_double.specs.Ops.{Ops, Meaning, Operand, most}
 use Rattle.double_double.specs.Pairs.{negated}
-use Rattle.tables.specs.Erfc.{fastThresholds, accurateThresholds}
 use Rattle.erfc.specs.Exponentials.{multiple, accurateMultiple}
-use Rattle.erfc.specs.Rows.{Argument, fastRow, accurateRow, fastEnd, tailEnd}
+use Rattle.erfc.specs.Rows.{Argument, fastThresholds, accurateThresholds, fastRow, accurateRow, fastEnd, tailEnd}
 use Rattle.erfc.specs.Asymptotics.{one, reciprocal}
 use Rattle.erfc.proofs.Ranges.{tail-bounded, fast-multiple, accurate-multiple, fast-threshold, accurate-threshold}
 use Rattle.erfc.proofs.Search.{row-within}

@@ -3,7 +3,7 @@ use Prim.Native.Nat.{ℕ, _<_}
 use mathlib.Core.Bool.{cond}
 use lib.IntN.{negsuc}
 use lib.Signed.{_≤ℤ_}
-use lib.Ieee.{Float, nan, binary64, eq, ofBits}
+use lib.Ieee.{Float, binary64, eq, ofBits}
 use Rattle.std.specs.declared.option.Option.{Option}
 use Rattle.std.specs.declared.option.Option.the-variants.{Some, None}
 use Rattle.std.specs.declared.result.Result.{Result}
@@ -53,7 +53,7 @@ accurateAnswer c f a = record { value = scaledValue (a .pair) (a .k); code = c; 
 
 module _ {S : Type 0} (o : Ops S) where
   -- the fast step, and the accurate one where the rounded ends differ
-  unfoldable pub withFastStep : S → Float → S × Answer
+  abbrev pub withFastStep : S → Float → S × Answer
   withFastStep s x =
       let f = fastStep o s x in
       let a = accurateStep o (f .0) x in
@@ -64,7 +64,7 @@ module _ {S : Type 0} (o : Ops S) where
 
   -- an argument of this class
   abbrev pub answerOf : Class → S → Float → S × Result Answer Refusal
-  answerOf Nan s x = (s, Ok (plainAnswer nan code.Nan))
+  answerOf Nan s x = (s, Ok (plainAnswer (ofBits binary64 0x7ff8000000000000) code.Nan))
   answerOf Zero s x = (s, Ok (plainAnswer (ofBits binary64 0) code.Flat))
   answerOf Two s x = (s, Ok (plainAnswer (ofBits binary64 0x4000000000000000) code.Flat))
   answerOf One s x = (s, Ok (plainAnswer (ofBits binary64 0x3ff0000000000000) code.One))

@@ -29,7 +29,11 @@ impl<A: Arithmetic> Side<A> {
             compared: 0,
             equal: 0,
         };
-        Side { name, arith, counts }
+        Side {
+            name,
+            arith,
+            counts,
+        }
     }
 
     // Evaluates, counts, and reports a difference; false where the argument is refused.
@@ -39,7 +43,10 @@ impl<A: Arithmetic> Side<A> {
         match comparison {
             Comparison::Differs(got) => {
                 let name = self.name;
-                println!(rt, "differs,{name},{argument:016x},{expected:016x},{got:016x}")?;
+                println!(
+                    rt,
+                    "differs,{name},{argument:016x},{expected:016x},{got:016x}"
+                )?;
                 Ok(true)
             }
             Comparison::Equal | Comparison::Skipped => Ok(true),

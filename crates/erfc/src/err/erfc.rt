@@ -34,14 +34,18 @@ use tables::exponents::exp::exp_reduce_1;
 ghost use mathlib.Core.Path.{_≡_};
 ghost use Prim.Native.Nat.{_<_};
 ghost use lib.Dec.{T};
-ghost use lib.Ieee.{binary64, inSigned, ofInt, toSigned};
+ghost use lib.Ieee.{binary64, inSigned, ofBits, ofInt, toSigned};
 ghost use lib.IntN.{negsuc, negℤ};
 ghost use lib.Signed.{_<ℤ_, _≤ℤ_};
 ghost use Rattle.ieee.specs.Whole.{Whole};
 ghost use Rattle.erfc.specs.Exponentials.{multiple, multipleInt, reducedIndices, q1, reducedArgument, exp1, accurateMultiple, accurateMultipleInt, accurateArgument, leadingDegrees, expAccurate};
 ghost use Rattle.erfc.specs.Rows.{Argument};
 ghost use Rattle.erfc.specs.Asymptotics.{reciprocal, squared, fastPolynomial, fastErr, fastStep, accuratePolynomial, scaledValue, accurateStep};
-ghost use Rattle.erfc.specs.Answers.{plainAnswer, withFastStep, withoutFastStep, evaluation, Within, OutcomeWithin};
+ghost use Rattle.erfc.specs.Classes.{classOf};
+ghost use Rattle.erfc.specs.Answers.{plainAnswer, withFastStep, withoutFastStep, answerOf, evaluation, Within, OutcomeWithin};
+
+// The answer of 403a8f7bfbd15495, which other rounding modes would miss.
+const LISTED_ANSWER: u64 = 0x000667bd620fd95b;
 
 // A polynomial for exp(z), for |z| < 2^-12.88.
 fn q_1<A: Arithmetic>(arith: &mut A, z_dd: DoubleDouble) -> DoubleDouble
@@ -370,12 +374,13 @@ fn answer_without_step(value: f64, code: Code) -> Answer
     }
 }
 
-// Complementary error function of the f64 with these bits: NaN, the flat ends and the tail.
-pub fn f_erfc<A: Arithmetic>(arith: &mut A, bits: u64) -> Result<Answer, Refusal>
-    ensures value { λ r. ⌜ (now (arith .exit), r) ≡ evaluation ops (now (arith .entry)) bits ⌝ }
+// The answer of an argument of this class.
+fn answer_of<A: Arithmetic>(arith: &mut A, class: Class, bits: u64) -> Result<Answer, Refusal>
+    requires { ⌜ class ≡ classOf bits ⌝ }
+    ensures value { λ r. ⌜ (now (arith .exit), r) ≡ answerOf ops class (now (arith .entry)) (ofBits binary64 bits) ⌝ }
     ensures within { λ r. ⌜ OutcomeWithin r ⌝ }
 {
-    match classify(bits) {
+    match class {
         Class::Nan => Ok(answer_without_step(f64::NAN, Code::Nan)),
         Class::Zero => Ok(answer_without_step(0.0, Code::Flat)),
         Class::Two => Ok(answer_without_step(2.0, Code::Flat)),
@@ -383,9 +388,17 @@ pub fn f_erfc<A: Arithmetic>(arith: &mut A, bits: u64) -> Result<Answer, Refusal
         Class::FastTail => Ok(erfc_fast_tail(arith, f64_from_bits_with_nan(bits))),
         Class::FarTail => Ok(erfc_far_tail(arith, f64_from_bits_with_nan(bits))),
         Class::Listed => Ok(answer_without_step(
-            f64_from_bits_with_nan(0x000667bd620fd95b),
+            f64_from_bits_with_nan(LISTED_ANSWER),
             Code::Listed,
         )),
         Class::Refused(refusal) => Err(refusal),
     }
+}
+
+// Complementary error function of the f64 with these bits: NaN, the flat ends and the tail.
+pub fn f_erfc<A: Arithmetic>(arith: &mut A, bits: u64) -> Result<Answer, Refusal>
+    ensures value { λ r. ⌜ (now (arith .exit), r) ≡ evaluation ops (now (arith .entry)) bits ⌝ }
+    ensures within { λ r. ⌜ OutcomeWithin r ⌝ }
+{
+    answer_of(arith, classify(bits), bits)
 }

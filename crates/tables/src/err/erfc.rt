@@ -17,29 +17,6 @@ pub struct AccurateRow {
     pub p: [u64; 30],
 }
 
-// A row serves 1/x up to its threshold.
-pub static THRESHOLD: [u64; 6] = [
-    0x3fbd500000000000,
-    0x3fc59da6ca291ba6,
-    0x3fcbc00000000000,
-    0x3fd0c00000000000,
-    0x3fd3800000000000,
-    0x3fd6300000000000,
-];
-
-pub static THRESHOLD_ACCURATE: [u64; 10] = [
-    0x3fb4500000000000,
-    0x3fbe000000000000,
-    0x3fc3f00000000000,
-    0x3fc9500000000000,
-    0x3fcf500000000000,
-    0x3fd3100000000000,
-    0x3fd7100000000000,
-    0x3fdbc00000000000,
-    0x3fe0b00000000000,
-    0x3fe3000000000000,
-];
-
 pub static ASYMPTOTIC_POLY: [AsymptoticRow; 6] = [
     AsymptoticRow {
         p: [

@@ -11,9 +11,10 @@ pub add-value : need.add-value
 add-value c = let h = below-60 (c .loop-b .value) (c .loop-b .b-index) (c .loop-b .inv .0) (omega arith) in omega (arith, c .in-Some .ensures tt .bound)
 
 pub loop-b-again : need.loop-b-again
-loop-b-again c =
-    (next-below (c .loop-b .value) (c .in-Some .d) (c .loop-b .b-index) (c .loop-b .inv .0) (c .in-Some .ensures tt .bound),
-    sym (digit-more (c .args .digits .now) (c .loop-b .value) (c .loop-b .b-index) (c .in-Some .d) (c .loop-b-test .taken) (sym (c .in-Some .ensures tt .value))) ∙ c .loop-b .inv .1)
+loop-b-again c = (
+  next-below (c .loop-b .value) (c .in-Some .d) (c .loop-b .b-index) (c .loop-b .inv .0) (c .in-Some .ensures tt .bound),
+  sym (digit-more (c .args .digits .now) (c .loop-b .value) (c .loop-b .b-index) (c .in-Some .d) (c .loop-b-test .taken) (sym (c .in-Some .ensures tt .value))) ∙ c .loop-b .inv .1,
+)
 
 pub returns-in-None : need.returns-in-None
 returns-in-None c =
