@@ -1,0 +1,5 @@
+// Tests of the crates below, as tables.
+#[cfg(test)]
+mod answers;
+#[cfg(test)]
+mod lines;
