@@ -1,1 +1,5 @@
 pub mod Whole
+pub mod Val
+pub mod Pairs
+pub mod Meaning
+pub mod Shifted
