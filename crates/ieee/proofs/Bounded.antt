@@ -59,10 +59,12 @@ back s ab p k z h e n = from-104 s ab (2 ^ 1074) (2 ^ 104) (pow-pos 104) (subst 
     up-k : (s p c : ℤ) (u v : ℕ) → p *ℤ pos v ≡ c → Near (s *ℤ pos u) p (2 * u) → Near (s *ℤ pos (u * v)) c (2 * (u * v))
     up-k s p c u v e n = let f = same-out (p *ℤ pos v) c e in let x = mul-le-mul-right v (n .0) in let y = mul-le-mul-right v (n .1) in
         (omega (zs, ap (λ (t : ℕ). t * v) (product-is s (pos u) .0), ap (λ (t : ℕ). t * v) (product-is s (pos u) .1)), omega (zs, ap (λ (t : ℕ). t * v) (product-is s (pos u) .0), ap (λ (t : ℕ). t * v) (product-is s (pos u) .1)))
+
     from-104 : (s c : ℤ) (u v : ℕ) → 0 < v → Near (s *ℤ pos (u * v)) (c *ℤ pos v) (2 * (u * v)) → Near (s *ℤ pos u) c (2 * u)
     from-104 s c u v V n = (
       cancel-le v (up (s *ℤ pos u) + down c) (up c + down (s *ℤ pos u) + 2 * u) V (omega (zs, ap (λ (t : ℕ). t * v) (product-is s (pos u) .0), ap (λ (t : ℕ). t * v) (product-is s (pos u) .1), n .0)),
-      cancel-le v (up c + down (s *ℤ pos u)) (up (s *ℤ pos u) + down c + 2 * u) V (omega (zs, ap (λ (t : ℕ). t * v) (product-is s (pos u) .0), ap (λ (t : ℕ). t * v) (product-is s (pos u) .1), n .1)))
+      cancel-le v (up c + down (s *ℤ pos u)) (up (s *ℤ pos u) + down c + 2 * u) V (omega (zs, ap (λ (t : ℕ). t * v) (product-is s (pos u) .0), ap (λ (t : ℕ). t * v) (product-is s (pos u) .1), n .1)),
+    )
 
 pub near-product : (a ta ua ah al b tb ub bh bl : ℤ) (i j : ℕ) → Normal (lift a) i → Steps a ta ua ah al → Normal (lift b) j → Steps b tb ub bh bl → i + j < 1178
     → (r y1 y2 y3 y4 t1 t2 t3 l : ℤ) → r ≡ rq (a *ℤ b) (2 ^ 1074) → y1 ≡ rq (ah *ℤ bh) (2 ^ 1074) → y2 ≡ rq (ah *ℤ bl) (2 ^ 1074) → y3 ≡ rq (al *ℤ bh) (2 ^ 1074) → y4 ≡ rq (al *ℤ bl) (2 ^ 1074)

@@ -238,4 +238,3 @@ unfolding sub
 sub-is x y fx fy nx ny h =
     let e : val x +ℤ val (neg y) ≡ val x -ℤ val y = ap (λ (z : ℤ). val x +ℤ z) (val-neg y) in
     subst (λ (z : ℤ). Is (add binary64 x (neg y)) (rz z)) e (add-is x (neg y) fx (lib.Ieee.Fits.neg-fits binary64 y fy) nx (finite-neg y ny) (subst (λ (z : ℤ). under (rz z)) (sym e) h))
-

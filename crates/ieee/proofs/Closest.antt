@@ -37,7 +37,7 @@ closest-so a u U =
     record {
       above = n .0;
       below = n .1;
-      even = λ t. tie-even (a / u) (a % u) u (compare (a % u * 2) u) refl (mod-lt a U) (subst (λ (z : ℕ). Tie z u (closest a u)) (sym (div-add-mod' a u)) t)
+      even = λ t. tie-even (a / u) (a % u) u (compare (a % u * 2) u) refl (mod-lt a U) (subst (λ (z : ℕ). Tie z u (closest a u)) (sym (div-add-mod' a u)) t);
     }
 
 -- two that are nearest are less than two apart, and if they are one apart both are at a tie, so both are even
@@ -65,7 +65,7 @@ more a u w c E d = record {
   even = λ t. elim t [
     | inl e ↦ let p = d .even (inl (omega arith)) in omega arith
     | inr e ↦ let p = d .even (inr (omega arith)) in omega arith
-  ]
+  ];
 }
 
 pub closest-add : (a u c : ℕ) → 0 < u → c % 2 ≡ 0 → closest (c * u + a) u ≡ c + closest a u
@@ -85,7 +85,7 @@ less a b u w y E s d = record {
   even = λ t. elim t [
     | inl e ↦ let p = d .even (inr (omega arith)) in omega arith
     | inr e ↦ let p = d .even (inl (omega arith)) in omega arith
-  ]
+  ];
 }
 
 pub closest-sub : (a u c : ℕ) → 0 < u → c % 2 ≡ 0 → a ≤ c * u → closest (c * u - a) u ≡ c - closest a u

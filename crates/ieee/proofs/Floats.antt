@@ -76,7 +76,7 @@ full-add a b j ga gb h =
       lo-number = L .0 .number;
       hi-number = S .0 .number;
       nearest = S .1;
-      exact = two-sum (val a) (val b) (val s) (val t1) (val t2) (val t3) (val t4) (val (add binary64 t3 t4)) (val-repr a (ga .holds)) (val-repr b (gb .holds)) (rounding (val s) (val a +ℤ val b) (S .1)) (rounding (val t1) (val s -ℤ val a) (T1 .1)) (rounding (val t2) (val s -ℤ val t1) (T2 .1)) (rounding (val t3) (val b -ℤ val t1) (T3 .1)) (rounding (val t4) (val a -ℤ val t2) (T4 .1)) (rounding (val (add binary64 t3 t4)) (val t3 +ℤ val t4) (L .1))
+      exact = two-sum (val a) (val b) (val s) (val t1) (val t2) (val t3) (val t4) (val (add binary64 t3 t4)) (val-repr a (ga .holds)) (val-repr b (gb .holds)) (rounding (val s) (val a +ℤ val b) (S .1)) (rounding (val t1) (val s -ℤ val a) (T1 .1)) (rounding (val t2) (val s -ℤ val t1) (T2 .1)) (rounding (val t3) (val b -ℤ val t1) (T3 .1)) (rounding (val t4) (val a -ℤ val t2) (T4 .1)) (rounding (val (add binary64 t3 t4)) (val t3 +ℤ val t4) (L .1));
     }
 
 -- ---- from_exact_add
@@ -100,5 +100,5 @@ quick-add a b j ga gb o h =
       lo-number = L .0 .number;
       hi-number = S .0 .number;
       nearest = S .1;
-      exact = fast-two-sum (val a) (val b) (val s) (val t) (val (sub binary64 b t)) (w .0) (w .1) (w .2) (rounding (val s) (val a +ℤ val b) (S .1)) (rounding (val t) (val s -ℤ val a) (T .1)) (rounding (val (sub binary64 b t)) (val b -ℤ val t) (L .1))
+      exact = fast-two-sum (val a) (val b) (val s) (val t) (val (sub binary64 b t)) (w .0) (w .1) (w .2) (rounding (val s) (val a +ℤ val b) (S .1)) (rounding (val t) (val s -ℤ val a) (T .1)) (rounding (val (sub binary64 b t)) (val b -ℤ val t) (L .1));
     }

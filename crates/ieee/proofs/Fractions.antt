@@ -68,7 +68,6 @@ mul-whole x y p fx fy nx ny e h =
     let w = rq-whole (val x *ℤ val y) p (2 ^ 1074) (pow-pos 1074) e in
     subst (Is (mul binary64 x y)) w (mul-is x y fx fy nx ny (subst under (sym w) h))
 
-
 -- ---- quotients, by a number above zero
 div-cross : (u v A B de dd l : ℕ) → A * de ≡ u * l → B * dd ≡ v * l → u * dd * l * B ≡ A * l * (v * de)
 div-cross u v A B de dd l p q = omega (arith, ap (λ (z : ℕ). z * (dd * B)) p, ap (λ (z : ℕ). z * (A * de)) q)
@@ -165,5 +164,5 @@ parts (negsuc n) d D = go (rnd (suc n) d) (Rattle.ieee.proofs.Round.unit-of (s
       above = let e = u .above in let f = neg-is (pos s) in omega (arith, ap (λ (z : ℕ). z * d) (f .0), ap (λ (z : ℕ). z * d) (f .1));
       below = let e = u .below in let f = neg-is (pos s) in omega (arith, ap (λ (z : ℕ). z * d) (f .0), ap (λ (z : ℕ). z * d) (f .1));
       hi = omega (arith, u .hi);
-      lo = u .lo
+      lo = u .lo;
     }

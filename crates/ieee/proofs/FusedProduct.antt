@@ -73,12 +73,14 @@ fused-mult a b ga gb large =
       lo-number = F .0;
       hi-number = R .0 .number;
       nearest = R .1 ∙ sym (rq-whole (A *ℤ B) (p .0) (2 ^ 1074) (pow-pos 1074) (sym (p .1)));
-      exact = ap (λ (z : ℤ). z *ℤ L) (id-pair (p .0) (val r) (val (fused binary64 a b (neg r))) (F .1 ∙ v)) ∙ p .1
+      exact = ap (λ (z : ℤ). z *ℤ L) (id-pair (p .0) (val r) (val (fused binary64 a b (neg r))) (F .1 ∙ v)) ∙ p .1;
     }
   where
     one : (k : ℕ) → 2 ^ k ≤ 1 * 2 ^ k
     one k = omega arith
+
     one-one : (k : ℕ) → 1 * 1 * 2 ^ k ≡ 2 ^ k
     one-one k = omega arith
+
     small : (p r : ℤ) (k : ℕ) → natAbs p ≤ 2 ^ k → natAbs r ≤ 2 ^ k → natAbs (p -ℤ r) ≤ 2 ^ suc k
     small p r k a b = omega zs

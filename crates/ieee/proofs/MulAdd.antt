@@ -70,18 +70,24 @@ module _ (p hi lo c t u : ℤ) (rp : Rounds p hi) (e : p ≡ hi +ℤ lo) (rlo : 
     where
       pow-up : (i j : ℕ) → i < j → 2 * 2 ^ i ≤ 2 ^ j
       pow-up i j h = let m : 2 ^ suc i ≤ 2 ^ j = pow-mono h in omega arith
+
       pow-up-two : (i j : ℕ) → suc i < j → 4 * 2 ^ i ≤ 2 ^ j
       pow-up-two i j h = let m : 2 ^ suc (suc i) ≤ 2 ^ j = pow-mono h in omega arith
+
       pow-mono-suc : (i j : ℕ) → i ≤ suc j → 2 ^ i ≤ 2 * 2 ^ j
       pow-mono-suc i j h = let m : 2 ^ i ≤ 2 ^ suc j = pow-mono h in omega arith
+
       low-by : (p hi lo : ℤ) (b K : ℕ) → p ≡ hi +ℤ lo → up hi * 2 + down p * 2 ≤ up p * 2 + down hi * 2 + b → up p * 2 + down hi * 2 ≤ up hi * 2 + down p * 2 + b → b ≤ 2 * K → Le lo K
       low-by p hi lo b K e g h i = (omega zs, omega zs)
+
       size : (rp .k ≡ 0) ⊎ ((2 ^ 52 * 2 ^ (rp .k) + down p ≤ up p) ⊎ (2 ^ 52 * 2 ^ (rp .k) + up p ≤ down p)) → rt .k ≤ rp .k → 0 < rt .k → 2 ^ 52 * 2 ^ (rp .k) ≤ natAbs p
       size (inl z) l P = absurd (omega arith)
       size (inr (inl z)) l P = omega zs
       size (inr (inr z)) l P = omega zs
+
       half-lt : (c : ℤ) (a K : ℕ) → Lt c (2 ^ 53 * a) → 2 * a ≤ K → Le c (2 ^ 52 * K)
       half-lt c a K l h = (omega arith, omega arith)
+
       too-far : (p hi c : ℤ) (b K : ℕ) → up hi * 2 + down p * 2 ≤ up p * 2 + down hi * 2 + b → up p * 2 + down hi * 2 ≤ up hi * 2 + down p * 2 + b → 2 ^ 52 * b ≤ natAbs p → Lt (hi +ℤ c) (2 ^ 53 * K) → Le c (2 ^ 52 * K) → 4 * K ≤ b → ⊥
       too-far p hi c b K g h i m n o = omega zs
 

@@ -83,5 +83,5 @@ pair-times al ah bl bh lo hi gal gah gbl gbh flo fhi w =
       lo-number = C3 .0 .number;
       hi-number = w .hi-number;
       nearest = w .nearest;
-      within = pair-bound (val ah) (val al) (val bh) (val bl) (val hi) (val lo) (val c2) (val (add binary64 lo c2)) (val t1) (val t2) (2 ^ 1074) (pow-pos 1074) (w .within) (w .nearest) (T1 .1) (T2 .1) (C2 .1) (C3 .1)
+      within = pair-bound (val ah) (val al) (val bh) (val bl) (val hi) (val lo) (val c2) (val (add binary64 lo c2)) (val t1) (val t2) (2 ^ 1074) (pow-pos 1074) (w .within) (w .nearest) (T1 .1) (T2 .1) (C2 .1) (C3 .1);
     }

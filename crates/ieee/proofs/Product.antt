@@ -35,9 +35,11 @@ powers : (i j w t : ℕ) → w + t ≡ i + j → 2 ^ i * 2 ^ j ≡ 2 ^ w * 2 ^ t
 powers i j w t e = sym (pow-add 2 i j) ∙ ap (λ (k : ℕ). 2 ^ k) (sym e) ∙ pow-add 2 w t
 
 pub prod-mult : (x y p : ℤ) (i j w t : ℕ) → Mult i x → Mult j y → p *ℤ pos (2 ^ t) ≡ x *ℤ y → w + t ≡ i + j → Mult w p
-prod-mult x y p i j w t (q, e) (r, f) h s =
-    (q *ℤ r, cancel p (q *ℤ r *ℤ pos (2 ^ w)) (2 ^ t) (pow-pos t)
-    (h ∙ (λ k. e k *ℤ f k) ∙ mul-mul q r (2 ^ i) (2 ^ j) ∙ ap (λ (z : ℕ). q *ℤ r *ℤ pos z) (powers i j w t s) ∙ sym (massoc (q *ℤ r) (pos (2 ^ w)) (pos (2 ^ t)))))
+prod-mult x y p i j w t (q, e) (r, f) h s = (
+  q *ℤ r,
+  cancel p (q *ℤ r *ℤ pos (2 ^ w)) (2 ^ t) (pow-pos t)
+      (h ∙ (λ k. e k *ℤ f k) ∙ mul-mul q r (2 ^ i) (2 ^ j) ∙ ap (λ (z : ℕ). q *ℤ r *ℤ pos z) (powers i j w t s) ∙ sym (massoc (q *ℤ r) (pos (2 ^ w)) (pos (2 ^ t)))),
+)
 
 abs-prod : (x y p : ℤ) (t : ℕ) → p *ℤ pos t ≡ x *ℤ y → natAbs p * t ≡ natAbs x * natAbs y
 abs-prod x y p t h = sym (abs-mul p (pos t)) ∙ ap natAbs h ∙ abs-mul x y

@@ -59,20 +59,28 @@ split-of a g =
 module _ (a b : Float) where
   abbrev pub r : Float
   r = mul binary64 a b
+
   abbrev pub y1 : Float
   y1 = mul binary64 (high a) (high b)
+
   abbrev pub y2 : Float
   y2 = mul binary64 (high a) (low b)
+
   abbrev pub y3 : Float
   y3 = mul binary64 (low a) (high b)
+
   abbrev pub y4 : Float
   y4 = mul binary64 (low a) (low b)
+
   abbrev pub d1 : Float
   d1 = sub binary64 y1 r
+
   abbrev pub d2 : Float
   d2 = add binary64 y2 d1
+
   abbrev pub d3 : Float
   d3 = add binary64 y3 d2
+
   abbrev pub rest : Float
   rest = add binary64 y4 d3
 
@@ -116,7 +124,7 @@ exact-from a b ga gb na nb e' =
       lo-number = L .0 .number;
       hi-number = R .0 .number;
       nearest = R .1 ∙ sym (rq-whole (A *ℤ B) (p .0) (2 ^ 1074) (pow-pos 1074) (sym (p .1)));
-      exact = ap (λ (z : ℤ). z *ℤ pos (2 ^ 1074)) x ∙ p .1
+      exact = ap (λ (z : ℤ). z *ℤ pos (2 ^ 1074)) x ∙ p .1;
     }
 
 pub exact-mult : (a b : Float) → Good a 1474 → Good b 1474 → Large a b → Product-of a b (rest a b) (r a b)
@@ -167,9 +175,9 @@ any-mult a b ga gb =
     let L = good-add (y4 a b) (d3 a b) 1940 (good-up (y4 a b) 1937 1940 (lit≤ tt) (Y4 .0)) (D3 .0) (lit< tt) in
     let S = val (r a b) +ℤ val (rest a b) in
     let zeros = λ (w : ((A ≡ pos 0) × (val (high a) ≡ pos 0) × (val (low a) ≡ pos 0)) ⊎ ((B ≡ pos 0) × (val (high b) ≡ pos 0) × (val (low b) ≡ pos 0))).
-        Rattle.ieee.proofs.Bounded.zero-product A (val (high a)) (val (low a)) B (val (high b)) (val (low b)) (val (r a b)) (val (y1 a b)) (val (y2 a b)) (val (y3 a b)) (val (y4 a b)) (val (d1 a b)) (val (d2 a b)) (val (d3 a b)) (val (rest a b)) w (R .1) (Y1 .1) (Y2 .1) (Y3 .1) (Y4 .1) (D1 .1) (D2 .1) (D3 .1) (L .1) in
+    Rattle.ieee.proofs.Bounded.zero-product A (val (high a)) (val (low a)) B (val (high b)) (val (low b)) (val (r a b)) (val (y1 a b)) (val (y2 a b)) (val (y3 a b)) (val (y4 a b)) (val (d1 a b)) (val (d2 a b)) (val (d3 a b)) (val (rest a b)) w (R .1) (Y1 .1) (Y2 .1) (Y3 .1) (Y4 .1) (D1 .1) (D2 .1) (D3 .1) (L .1) in
     let made = λ (within : natAbs (S *ℤ pos (2 ^ 1074) -ℤ A *ℤ B) ≤ 2 * 2 ^ 1074) (exact : (A *ℤ B ≡ pos 0) ⊎ Large a b → S *ℤ pos (2 ^ 1074) ≡ A *ℤ B).
-        finish (L .0 .number) (R .0 .number) (R .1) within exact in
+    finish (L .0 .number) (R .0 .number) (R .1) within exact in
     let whole = λ (w : S *ℤ pos (2 ^ 1074) ≡ A *ℤ B). made (same-near (S *ℤ pos (2 ^ 1074)) (A *ℤ B) (2 * 2 ^ 1074) w) (λ _. w) in
     elim (eq-zero-or-pos (natAbs A)) [
       | inl z ↦

@@ -58,7 +58,7 @@ unit-of n d D =
       lo = elim (eq-zero-or-pos k) [
         | inl e ↦ inl e
         | inr p ↦ inr (let r : 2 ^ (52 + k) * d ≤ n = le-div-iff-mul-le D .0 (size-reaches (n / d) (52 + k) (omega arith)) in omega (arith, ap (λ (x : ℕ). x * d) (pow-add 2 52 k)))
-      ]
+      ];
     }
 
 -- the error: half a unit of the smallest value, or 2 ^ -53 of n / d

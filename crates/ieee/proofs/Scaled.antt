@@ -52,12 +52,15 @@ scaled x y s n e f = subst (Rounds y) (ap rz f ∙ rz-scale x n ∙ ap (λ (z : 
 
 -- ---- any number of 53 digits but 0, times 2 ^ 52, is normal
 big : (a p : ℤ) (k : ℕ) → a ≡ p → Rounds a a → natAbs a ≡ k → 2 ^ 52 ≤ k → (j : ℕ) × Normal a j
-big a p k e r f h = (r .k, record {
-  m = r .q;
-  is = r .is;
-  hi = let g = same-out a (r .q *ℤ pos (2 ^ (r .k))) (r .is) in let H = r .hi in (cancel-lt (2 ^ (r .k)) (up (r .q)) (down (r .q) + 2 ^ 53) (omega zs), cancel-lt (2 ^ (r .k)) (down (r .q)) (up (r .q) + 2 ^ 53) (omega zs));
-  lo = least a k r f h
-})
+big a p k e r f h = (
+  r .k,
+  record {
+    m = r .q;
+    is = r .is;
+    hi = let g = same-out a (r .q *ℤ pos (2 ^ (r .k))) (r .is) in let H = r .hi in (cancel-lt (2 ^ (r .k)) (up (r .q)) (down (r .q) + 2 ^ 53) (omega zs), cancel-lt (2 ^ (r .k)) (down (r .q)) (up (r .q) + 2 ^ 53) (omega zs));
+    lo = least a k r f h;
+  },
+)
   where
     least : (a : ℤ) (k : ℕ) (r : Rounds a a) → natAbs a ≡ k → 2 ^ 52 ≤ k → (2 ^ 52 + down (r .q) ≤ up (r .q)) ⊎ (2 ^ 52 + up (r .q) ≤ down (r .q))
     least a k r f h =
@@ -109,9 +112,11 @@ pub whole-product : (x y : ℤ) (i j : ℕ) → Mult i (lift x) → Mult j (lift
 whole-product x y i j (q, e) (r, f) h =
     let d = i + j - 1178 in
     let p = q *ℤ r *ℤ pos (2 ^ d) in
-    let g : 2 ^ i * 2 ^ j ≡ 2 ^ d * 2 ^ 1178 = sym (pow-add 2 i j) ∙ ap (λ (z : ℕ). 2 ^ z) {x = i + j} {y = d + 1178} (omega arith) ∙ pow-add 2 d 1178 in
-    (p, cancel (p *ℤ pos (2 ^ 1074)) (x *ℤ y) (2 ^ 104) (pow-pos 104)
-    (massoc p (pos (2 ^ 1074)) (pos (2 ^ 104)) ∙ massoc (q *ℤ r) (pos (2 ^ d)) (pos (2 ^ 1178)) ∙ ap (λ (z : ℕ). q *ℤ r *ℤ pos z) (sym g) ∙ sym (mul-mul q r (2 ^ i) (2 ^ j)) ∙ sym (λ k. e k *ℤ f k) ∙ mul-mul x y (2 ^ 52) (2 ^ 52)))
+    let g : 2 ^ i * 2 ^ j ≡ 2 ^ d * 2 ^ 1178 = sym (pow-add 2 i j) ∙ ap (λ (z : ℕ). 2 ^ z) {x = i + j} {y = d + 1178} (omega arith) ∙ pow-add 2 d 1178 in (
+      p,
+      cancel (p *ℤ pos (2 ^ 1074)) (x *ℤ y) (2 ^ 104) (pow-pos 104)
+          (massoc p (pos (2 ^ 1074)) (pos (2 ^ 104)) ∙ massoc (q *ℤ r) (pos (2 ^ d)) (pos (2 ^ 1178)) ∙ ap (λ (z : ℕ). q *ℤ r *ℤ pos z) (sym g) ∙ sym (mul-mul q r (2 ^ i) (2 ^ j)) ∙ sym (λ k. e k *ℤ f k) ∙ mul-mul x y (2 ^ 52) (2 ^ 52)),
+    )
 
 -- the exponents, from the size of the product
 both-lifted : (A B u : ℕ) → A * B * (u * u) ≡ A * u * (B * u)

@@ -57,7 +57,7 @@ moved false v u U h =
       high = omega arith;
       near = closest-add v u C U refl;
       most = omega arith;
-      back = leave (C + closest v u) (closest v u) u C refl
+      back = leave (C + closest v u) (closest v u) u C refl;
     }
 moved true v u U h =
     let k = closest-at-most v u (2 ^ 51) U (omega arith) in
@@ -69,7 +69,7 @@ moved true v u U h =
       high = omega arith;
       near = closest-sub v u C U refl (omega arith);
       most = omega arith;
-      back = take-off (C - closest v u) (closest v u) u C refl (omega arith)
+      back = take-off (C - closest v u) (closest v u) u C refl (omega arith);
     }
 
 -- ---- the value of the result
@@ -93,7 +93,7 @@ no-overflow w h = lt-of-le-of-lt (mul-le-mul-right (2 ^ 1074) h) (lit< tt)
 sum-val : (x : Float) (s : Bool) (v k : ℕ) → T (fits binary64 x) → Is x (signed s v) → (o : Moved s v k (2 ^ 1074)) → Is (add binary64 x shift) (pos (o .w * 2 ^ 1074))
 sum-val x s v k f i o =
     let e : rz (val x +ℤ val shift) ≡ pos (o .w * 2 ^ 1074) =
-      (λ t. rz (i .1 t +ℤ shift-val .1 t)) ∙ ap rz (o .sum) ∙ ap pos (rnd-closest (o .n) 1074 (o .low) (o .high) ∙ ap (λ (z : ℕ). z * 2 ^ 1074) (o .near)) in
+    (λ t. rz (i .1 t +ℤ shift-val .1 t)) ∙ ap rz (o .sum) ∙ ap pos (rnd-closest (o .n) 1074 (o .low) (o .high) ∙ ap (λ (z : ℕ). z * 2 ^ 1074) (o .near)) in
     subst (Is (add binary64 x shift)) e (add-is x shift f shift-fits (i .0) (shift-val .0) (subst under (sym e) (no-overflow (o .w) (o .most))))
 
 shifted-val : (x : Float) (s : Bool) (v k : ℕ) → T (fits binary64 x) → Is x (signed s v) → k ≤ 2 ^ 51 → Moved s v k (2 ^ 1074) → Is (shifted x) (signed s (k * 2 ^ 1074))
@@ -140,7 +140,7 @@ answer s m e f h =
     let b : K m e ≤ 2 ^ 51 = closest-at-most (m * up e) (down e) (2 ^ 51) (down-pos e) (omega arith) in
     record {
       most = b;
-      is = shifted-val (fin s m e) s (mag m e) (K m e) f (tt, refl) b (subst (λ (z : ℕ). Moved s (mag m e) z (2 ^ 1074)) k (moved s (mag m e) (2 ^ 1074) (pow-pos 1074) l))
+      is = shifted-val (fin s m e) s (mag m e) (K m e) f (tt, refl) b (subst (λ (z : ℕ). Moved s (mag m e) z (2 ^ 1074)) k (moved s (mag m e) (2 ^ 1074) (pow-pos 1074) l));
     }
 
 -- ---- from the value to the float

@@ -90,25 +90,27 @@ module _ (a t1 : ℤ) (j : ℕ) (n : Normal a j) (r1 : Rounds (pos (2 ^ 27 + 1) 
       let p = 2 ^ j in
       let near = f .2 in
       let e = same-out a (n .m *ℤ pos p) (n .is) in
-      let m = n .m in
-      ((omega (zs, s .0), omega (zs, s .0)), elim (n .lo) [
-        | inl l ↦ inr (elim (order (2 ^ 52 + 1 + down m) (up m)) [
-          | inl g ↦ let z = mul-le-mul-right p g in omega zs
-          | inr g ↦
-              let w : m ≡ pos (2 ^ 52) = omega zs in
-              let b : a ≡ pos (2 ^ 52 * p) = n .is ∙ ap (λ (z : ℤ). z *ℤ pos p) w in
-              let t = edge f (subst (Mult (52 + j)) (sym b) (mult-pow 52 j)) in
-              omega zs
-        ])
-        | inr l ↦ inl (elim (order (2 ^ 52 + 1 + up m) (down m)) [
-          | inl g ↦ let z = mul-le-mul-right p g in omega zs
-          | inr g ↦
-              let w : m ≡ negℤ (pos (2 ^ 52)) = omega zs in
-              let b : a ≡ negℤ (pos (2 ^ 52 * p)) = n .is ∙ ap (λ (z : ℤ). z *ℤ pos p) w ∙ neg-mul (pos (2 ^ 52)) (pos p) in
-              let t = edge f (subst (Mult (52 + j)) (sym b) (mult-neg (52 + j) (pos (2 ^ 52 * p)) (mult-pow 52 j))) in
-              omega zs
-        ])
-      ])
+      let m = n .m in (
+        (omega (zs, s .0), omega (zs, s .0)),
+        elim (n .lo) [
+          | inl l ↦ inr (elim (order (2 ^ 52 + 1 + down m) (up m)) [
+            | inl g ↦ let z = mul-le-mul-right p g in omega zs
+            | inr g ↦
+                let w : m ≡ pos (2 ^ 52) = omega zs in
+                let b : a ≡ pos (2 ^ 52 * p) = n .is ∙ ap (λ (z : ℤ). z *ℤ pos p) w in
+                let t = edge f (subst (Mult (52 + j)) (sym b) (mult-pow 52 j)) in
+                omega zs
+          ])
+          | inr l ↦ inl (elim (order (2 ^ 52 + 1 + up m) (down m)) [
+            | inl g ↦ let z = mul-le-mul-right p g in omega zs
+            | inr g ↦
+                let w : m ≡ negℤ (pos (2 ^ 52)) = omega zs in
+                let b : a ≡ negℤ (pos (2 ^ 52 * p)) = n .is ∙ ap (λ (z : ℤ). z *ℤ pos p) w ∙ neg-mul (pos (2 ^ 52)) (pos p) in
+                let t = edge f (subst (Mult (52 + j)) (sym b) (mult-neg (52 + j) (pos (2 ^ 52 * p)) (mult-pow 52 j))) in
+                omega zs
+          ])
+        ],
+      )
 
   module _ (t2 : ℤ) (r2 : Rounds (a -ℤ t1) t2) where
     third : Second → (27 + j ≤ r2 .k) × Near t2 (a -ℤ t1) (2 ^ 26 * 2 ^ j)
@@ -118,17 +120,19 @@ module _ (a t1 : ℤ) (j : ℕ) (n : Normal a j) (r1 : Rounds (pos (2 ^ 27 + 1) 
         let hi = r2 .hi in
         let above = r2 .above in
         let below = r2 .below in
-        let k-ge : 27 + j ≤ r2 .k = at-least (r2 .k) j (elim (s .1) [ inl l ↦ omega (arith, hi) | inr l ↦ omega (arith, hi) ]) in
-        (k-ge, elim (order (r2 .k) (27 + j)) [
-          | inl l ↦ let z = up-to (r2 .k) 27 j l in (omega arith, omega arith)
-          | inr g ↦
-              let z = down-to (r2 .k) 28 j (omega arith) in
-              elim (r2 .lo) [
-                | inl l ↦ absurd (omega arith)
-                | inr (inl l) ↦ let w = nearest x t2 (pos (2 ^ 80 * p)) r2 (repr-pow 80 j) 0 (omega (arith, s .0), omega (arith, s .0)) in (omega arith, omega arith)
-                | inr (inr l) ↦ let w = nearest x t2 (negℤ (pos (2 ^ 80 * p))) r2 (Rattle.ieee.proofs.Sums.repr-neg (pos (2 ^ 80 * p)) (repr-pow 80 j)) 0 (omega (zs, s .0, neg-is (pos (2 ^ 80 * p))), omega (zs, s .0, neg-is (pos (2 ^ 80 * p)))) in (omega arith, omega arith)
-              ]
-        ])
+        let k-ge : 27 + j ≤ r2 .k = at-least (r2 .k) j (elim (s .1) [ inl l ↦ omega (arith, hi) | inr l ↦ omega (arith, hi) ]) in (
+          k-ge,
+          elim (order (r2 .k) (27 + j)) [
+            | inl l ↦ let z = up-to (r2 .k) 27 j l in (omega arith, omega arith)
+            | inr g ↦
+                let z = down-to (r2 .k) 28 j (omega arith) in
+                elim (r2 .lo) [
+                  | inl l ↦ absurd (omega arith)
+                  | inr (inl l) ↦ let w = nearest x t2 (pos (2 ^ 80 * p)) r2 (repr-pow 80 j) 0 (omega (arith, s .0), omega (arith, s .0)) in (omega arith, omega arith)
+                  | inr (inr l) ↦ let w = nearest x t2 (negℤ (pos (2 ^ 80 * p))) r2 (Rattle.ieee.proofs.Sums.repr-neg (pos (2 ^ 80 * p)) (repr-pow 80 j)) 0 (omega (zs, s .0, neg-is (pos (2 ^ 80 * p))), omega (zs, s .0, neg-is (pos (2 ^ 80 * p)))) in (omega arith, omega arith)
+                ]
+          ],
+        )
 
 -- what is left once h = t1 + t2 and l = a - h are exact
 near-a : (a t1 t2 : ℤ) (b : ℕ) → Near t2 (a -ℤ t1) b → Near (t1 +ℤ t2) a b
@@ -174,5 +178,6 @@ split a t1 t2 h l j n r1 r2 r3 r4 =
   where
     wide : (j : ℕ) (x : ℤ) → Le x (2 ^ 53 * 2 ^ j) → Le x (2 ^ 53 * 2 ^ (27 + j))
     wide j x b = (omega (arith, pow-add 2 27 j), omega (arith, pow-add 2 27 j))
+
     wider : (j : ℕ) (x : ℤ) → Le x (2 ^ 26 * 2 ^ j) → Le x (2 ^ 53 * 2 ^ j)
     wider j x b = (omega arith, omega arith)

@@ -140,7 +140,7 @@ as-rounds p r z R h bottom =
       lo = elim (R .lo) [
         | inl k0 ↦ absurd (let m : 2 ^ z ≤ 2 ^ 27 = pow-mono {i = z} {j = 27} h in let p1 : 2 ^ z * 2 ^ k ≡ 2 ^ z = ap (λ (i : ℕ). 2 ^ z * 2 ^ i) k0 ∙ native.Mathlib.Nat.mul-one (2 ^ z) in omega zs)
         | inr g ↦ inr (elim (order (down p) (up p)) [ inl l ↦ inl (omega zs) | inr l ↦ inr (omega zs) ])
-      ]
+      ];
     }
 
 half-twice : (x s : ℤ) (u : ℕ) → Half x s u → Twice x (s *ℤ pos u) u

@@ -18,6 +18,7 @@ pub mlcomm : (a b c : ℤ) → a *ℤ (b *ℤ c) ≡ b *ℤ (a *ℤ c)
 mlcomm a b c = sym (massoc a b c) ∙ ap (λ (z : ℤ). z *ℤ c) (mcomm a b) ∙ massoc b a c
 
 pub ruleset poly = (dist, dist-left, mul-neg, neg-mul, massoc, mcomm, mlcomm)
+
 pub ruleset lin = (arith, sum-is, neg-is, same-in, same-out, abs-is)
 
 pub cross-difference : (x y x' y' : ℤ) → x *ℤ y -ℤ x' *ℤ y' ≡ x *ℤ (y -ℤ y') +ℤ (x -ℤ x') *ℤ y'

@@ -29,27 +29,33 @@ pub placed : (x : ℤ) → (r : Rounds x (rz x)) × (r .k ≡ drop 53 (natAbs x)
 placed (pos n) = go (rnd n 1) (unit-of n 1 (omega arith))
   where
     go : (s : ℕ) → Unit-of n 1 s → (r : Rounds (pos n) (pos s)) × (r .k ≡ drop 53 n 1)
-    go s u = (record {
-      k = u .k;
-      q = pos (u .c);
-      is = ap pos (u .is);
-      above = omega (arith, u .above);
-      below = omega (arith, u .below);
-      hi = omega (arith, u .hi);
-      lo = elim (u .lo) [ inl e ↦ inl e | inr l ↦ inr (inl (omega arith)) ]
-    }, u .place)
+    go s u = (
+      record {
+        k = u .k;
+        q = pos (u .c);
+        is = ap pos (u .is);
+        above = omega (arith, u .above);
+        below = omega (arith, u .below);
+        hi = omega (arith, u .hi);
+        lo = elim (u .lo) [ inl e ↦ inl e | inr l ↦ inr (inl (omega arith)) ];
+      },
+      u .place,
+    )
 placed (negsuc n) = go (rnd (suc n) 1) (unit-of (suc n) 1 (omega arith))
   where
     go : (s : ℕ) → Unit-of (suc n) 1 s → (r : Rounds (negsuc n) (negℤ (pos s))) × (r .k ≡ drop 53 (suc n) 1)
-    go s u = (record {
-      k = u .k;
-      q = negℤ (pos (u .c));
-      is = ap (λ (z : ℕ). negℤ (pos z)) (u .is) ∙ sym (neg-mul (pos (u .c)) (pos (2 ^ (u .k))));
-      above = let e = u .above in omega zs;
-      below = let e = u .below in omega zs;
-      hi = omega (arith, u .hi);
-      lo = elim (u .lo) [ inl e ↦ inl e | inr l ↦ inr (inr (omega arith)) ]
-    }, u .place)
+    go s u = (
+      record {
+        k = u .k;
+        q = negℤ (pos (u .c));
+        is = ap (λ (z : ℕ). negℤ (pos z)) (u .is) ∙ sym (neg-mul (pos (u .c)) (pos (2 ^ (u .k))));
+        above = let e = u .above in omega zs;
+        below = let e = u .below in omega zs;
+        hi = omega (arith, u .hi);
+        lo = elim (u .lo) [ inl e ↦ inl e | inr l ↦ inr (inr (omega arith)) ];
+      },
+      u .place,
+    )
 
 pub rounds : (x : ℤ) → Rounds x (rz x)
 rounds x = placed x .0
