@@ -1,3 +1,5 @@
+use crate::alternating::Alternating;
+use crate::alternating::AlternatingArithmetic;
 use double_double::plain::Plain;
 use double_double::plain::PlainArithmetic;
 use erfc::answer::Answer;
@@ -158,4 +160,22 @@ fn refusals() -> Result<(), Fail> {
         }
     }
     Ok(())
+}
+
+// A third arithmetic answers the same values and codes here, with the code above it unchanged.
+#[test]
+fn alternating() -> Result<(), Fail> {
+    let mut arith = Alternating {
+        fused: true,
+        calls: 0,
+    };
+    for figure in FIGURES.iter() {
+        let Ok(answer) = f_erfc(&mut arith, figure.bits) else {
+            return Err(Fail::new("refused"));
+        };
+        check_eq(f64_to_bits_with_nan(answer.value), figure.value)?;
+        check_eq(answer.code.number(), figure.code)?;
+    }
+    // 3 fast answers of 23 calls, 2 retried of 65 and their rows 3 and 6, 2 without a fast step of 42
+    check_eq(arith.calls, 3 * 23 + 2 * 65 + 3 + 6 + 2 * 42)
 }

@@ -1,4 +1,5 @@
-// Tests of the crates below, as tables.
+// Tests of the crates below, as tables, and an arithmetic of their own.
+pub mod alternating;
 #[cfg(test)]
 mod answers;
 #[cfg(test)]

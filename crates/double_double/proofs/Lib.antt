@@ -1,2 +1,5 @@
-pub mod Commutes
+pub mod PlainMeaning
+pub mod FusedSteps
+pub mod FusedDomain
+pub mod FusedMeaning
 pub mod Meanings

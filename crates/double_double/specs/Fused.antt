@@ -4,7 +4,7 @@ use lib.Ieee.{Float, binary64, mul, neg, lt, le, eq, ofBits}
 use Rattle.std.specs.Floats.{withSign, fused}
 use Rattle.double_double.specs.declared.double_double.DoubleDouble.{DoubleDouble}
 use Rattle.double_double.specs.declared.fused.Fused.{Fused}
-use Rattle.double_double.specs.Ops.{Ops, most}
+use Rattle.double_double.specs.Ops.{Ops}
 use Rattle.double_double.specs.Plain.{plainProduct, plainMultiplyAdd}
 
 abbrev pub size : Float → Float
@@ -12,6 +12,10 @@ size x = withSign false x
 
 abbrev pub zero : Float
 zero = ofBits binary64 0
+
+-- 2 ^ 400
+abbrev pub most : Float
+most = ofBits binary64 0x58f0000000000000
 
 -- 2 ^ -960
 abbrev pub least : Float

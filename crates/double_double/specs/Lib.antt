@@ -2,3 +2,4 @@ pub mod Pairs
 pub mod Ops
 pub mod Plain
 pub mod Fused
+pub mod Domain

@@ -1,10 +1,6 @@
 -- An arithmetic by what its functions answer, and what every arithmetic promises. Definitions only.
-use Prim.Native.Nat.{ℕ}
-use mathlib.Core.Path.{_≡_}
-use mathlib.Core.Bool.{false}
-use lib.Dec.{T}
-use lib.Ieee.{Float, binary64, mul, le, fits, ofBits}
-use Rattle.std.specs.Floats.{withSign}
+use lib.Ieee.{Float}
+use Rattle.ieee.specs.Meaning.{Operand, ProductMeans, PairsMean, NumberMeans, MaddMeans}
 use Rattle.double_double.specs.declared.double_double.DoubleDouble.{DoubleDouble}
 
 -- with states in S: from a state and the operands, the state that is left and the answer
@@ -14,20 +10,12 @@ pub record Ops (S : Type 0) : Type 0 where
   pub pairTimesNumber : S → DoubleDouble → Float → S × DoubleDouble
   pub multiplyAdd : S → Float → Float → Float → S × Float
 
--- 2 ^ 400
-abbrev pub most : Float
-most = ofBits binary64 0x58f0000000000000
-
--- a finite f64 of magnitude at most 2 ^ 400
-pub record Operand (x : Float) : Type 0 where
-  pub holds : T (fits binary64 x)
-  pub bounded : T (le (withSign false x) most)
-
--- At every state, whatever was called before: hi of each product is the f64 nearest to the product of the leading parts.
--- For other operands the answers are free.
+-- At every state, whatever was called before, for finite operands of at most 2 ^ 400 in size. For other operands the answers are free.
 pub record Meaning {S : Type 0} (o : Ops S) : Type 0 where
-  pub product : (s : S) (a b : Float) → Operand a → Operand b → o .product s a b .1 .hi ≡ mul binary64 a b
+  pub product : (s : S) (a b : Float) → Operand a → Operand b →
+      ProductMeans a b (o .product s a b .1 .lo) (o .product s a b .1 .hi)
   pub pairTimesPair : (s : S) (a b : DoubleDouble) → Operand (a .lo) → Operand (a .hi) → Operand (b .lo) → Operand (b .hi) →
-      o .pairTimesPair s a b .1 .hi ≡ mul binary64 (a .hi) (b .hi)
+      PairsMean (a .lo) (a .hi) (b .lo) (b .hi) (o .pairTimesPair s a b .1 .lo) (o .pairTimesPair s a b .1 .hi)
   pub pairTimesNumber : (s : S) (a : DoubleDouble) (b : Float) → Operand (a .lo) → Operand (a .hi) → Operand b →
-      o .pairTimesNumber s a b .1 .hi ≡ mul binary64 (a .hi) b
+      NumberMeans (a .lo) (a .hi) b (o .pairTimesNumber s a b .1 .lo) (o .pairTimesNumber s a b .1 .hi)
+  pub multiplyAdd : (s : S) (a b c : Float) → Operand a → Operand b → Operand c → MaddMeans a b c (o .multiplyAdd s a b c .1)

@@ -2,6 +2,7 @@
 ghost use mathlib.Core.Path.{_≡_};
 ghost use lib.Ieee as Ieee;
 ghost use lib.Ieee.{binary64};
+ghost use Rattle.ieee.specs.Pairs.{Small, Sum-of, Leads};
 ghost use Rattle.double_double.specs.Pairs.{bitPair, fastTwoSum, twoSum, veltkamp, dekkerFrom, numberPlusPair, pairPlusNumber, roundedSum, negated};
 use std::num::f64_from_bits_with_nan;
 
@@ -60,8 +61,8 @@ impl DoubleDouble {
         DoubleDouble::new(r_lo, r_hi)
     }
 
-    // a + b where a leads.
-    pub fn from_exact_add(a: f64, b: f64) -> Self
+    // a + b, three operations.
+    fn fast_two_sum(a: f64, b: f64) -> Self
         ensures { λ r. ⌜ r ≡ fastTwoSum a b ⌝ }
     {
         let r_hi = a + b;
@@ -70,8 +71,8 @@ impl DoubleDouble {
         DoubleDouble::new(r_lo, r_hi)
     }
 
-    // a + b in any order.
-    pub fn from_full_exact_add(a: f64, b: f64) -> Self
+    // a + b, six operations.
+    fn two_sum(a: f64, b: f64) -> Self
         ensures { λ r. ⌜ r ≡ twoSum a b ⌝ }
     {
         let r_hi = a + b;
@@ -81,6 +82,22 @@ impl DoubleDouble {
         let t4 = a - t2;
         let r_lo = t3 + t4;
         DoubleDouble::new(r_lo, r_hi)
+    }
+
+    // a + b, exact where a leads.
+    pub fn from_exact_add(a: f64, b: f64) -> Self
+        ensures value { λ r. ⌜ r ≡ fastTwoSum a b ⌝ }
+        ensures exact { λ r. ⌜ (Small a 1974 → Small b 1974 → Leads a b → Sum-of a b (r .lo) (r .hi)) ⌝ }
+    {
+        DoubleDouble::fast_two_sum(a, b)
+    }
+
+    // a + b, exact in any order.
+    pub fn from_full_exact_add(a: f64, b: f64) -> Self
+        ensures value { λ r. ⌜ r ≡ twoSum a b ⌝ }
+        ensures exact { λ r. ⌜ (Small a 1974 → Small b 1974 → Sum-of a b (r .lo) (r .hi)) ⌝ }
+    {
+        DoubleDouble::two_sum(a, b)
     }
 
     // b + a where b leads.

@@ -3,6 +3,13 @@ use crate::arithmetic::Arithmetic;
 use crate::double_double::DoubleDouble;
 use crate::plain;
 ghost use mathlib.Core.Path.{_≡_};
+ghost use lib.Ieee.{binary64};
+ghost use lib.IntN.{_+ℤ_, _*ℤ_};
+ghost use Rattle.std.specs.Floats.{fused};
+ghost use Rattle.ieee.specs.Val.{val};
+ghost use Rattle.ieee.specs.Meaning.{Operand, Settled, fine};
+ghost use Rattle.double_double.specs.Domain.{Domain};
+ghost use Rattle.double_double.specs.Plain.{plainMultiplyAdd};
 ghost use Rattle.double_double.specs.Fused.{bounded, reaches, fusedDomain, fusedMultiplyAdd, fusedProduct, fusedOps};
 use std::num::f64_from_bits_with_nan;
 
@@ -45,8 +52,8 @@ fn in_fused_domain(a: f64, b: f64, c: f64) -> bool
         && (c == 0.0 || f64_from_bits_with_nan(0x03f0000000000000) <= c.abs())
 }
 
-// a * b + c, rounded once in its domain.
-pub fn f_fmla(a: f64, b: f64, c: f64) -> f64
+// a * b + c: rounded once in the domain, plain's steps elsewhere.
+fn multiply_add(a: f64, b: f64, c: f64) -> f64
     ensures { λ r. ⌜ r ≡ fusedMultiplyAdd a b c ⌝ }
 {
     if in_fused_domain(a, b, c) {
@@ -56,12 +63,30 @@ pub fn f_fmla(a: f64, b: f64, c: f64) -> f64
     }
 }
 
-fn from_exact_mult(a: f64, b: f64) -> DoubleDouble
+// a * b + c: IEEE 754's fusedMultiplyAdd in the domain.
+pub fn f_fmla(a: f64, b: f64, c: f64) -> f64
+    ensures value { λ r. ⌜ r ≡ fusedMultiplyAdd a b c ⌝ }
+    ensures inside { λ r. ⌜ (Domain a b c → r ≡ fused binary64 a b c) ⌝ }
+    ensures outside { λ r. ⌜ ((Domain a b c → ⊥) → r ≡ plainMultiplyAdd a b c) ⌝ }
+{
+    multiply_add(a, b, c)
+}
+
+// a * b with the low part by the multiply-add.
+fn fused_product(a: f64, b: f64) -> DoubleDouble
     ensures { λ r. ⌜ r ≡ fusedProduct a b ⌝ }
 {
     let r_hi = a * b;
-    let r_lo = f_fmla(a, b, -r_hi);
+    let r_lo = multiply_add(a, b, -r_hi);
     DoubleDouble::new(r_lo, r_hi)
+}
+
+// a * b as a pair, exact where it is zero or at least 2^-900 in size.
+pub fn from_exact_mult(a: f64, b: f64) -> DoubleDouble
+    ensures value { λ r. ⌜ r ≡ fusedProduct a b ⌝ }
+    ensures exact { λ r. ⌜ (Operand a → Operand b → Settled a b → fine (val (r .hi) +ℤ val (r .lo)) ≡ val a *ℤ val b) ⌝ }
+{
+    fused_product(a, b)
 }
 
 pub impl Arithmetic for Fused as FusedArithmetic {
@@ -77,24 +102,24 @@ pub impl Arithmetic for Fused as FusedArithmetic {
     }
 
     fn from_exact_mult(&mut self, a: f64, b: f64) -> DoubleDouble {
-        from_exact_mult(a, b)
+        fused_product(a, b)
     }
 
     fn quick_mult(&mut self, a: DoubleDouble, b: DoubleDouble) -> DoubleDouble {
-        let mut r = from_exact_mult(a.hi, b.hi);
-        let t1 = f_fmla(a.hi, b.lo, r.lo);
-        let t2 = f_fmla(a.lo, b.hi, t1);
+        let mut r = fused_product(a.hi, b.hi);
+        let t1 = multiply_add(a.hi, b.lo, r.lo);
+        let t2 = multiply_add(a.lo, b.hi, t1);
         r.lo = t2;
         r
     }
 
     fn quick_mult_f64(&mut self, a: DoubleDouble, b: f64) -> DoubleDouble {
         let h = b * a.hi;
-        let l = f_fmla(b, a.lo, f_fmla(b, a.hi, -h));
+        let l = multiply_add(b, a.lo, multiply_add(b, a.hi, -h));
         DoubleDouble { lo: l, hi: h }
     }
 
     fn dd_fmla(&mut self, a: f64, b: f64, c: f64) -> f64 {
-        f_fmla(a, b, c)
+        multiply_add(a, b, c)
     }
 }

@@ -4,3 +4,9 @@ pub mod Ranges
 pub mod Turns
 pub mod Search
 pub mod Tail
+pub mod Rounded
+pub mod Powers
+pub mod Ups
+pub mod Downs
+pub mod Once
+pub mod Scales

@@ -1,32 +1,42 @@
 -- What the bits of a tail argument say of the multiples of log 2 and of 1/x. Assumes nothing.
-use mathlib.Core.Path.{_≡_}
-use mathlib.Core.Bool.{true, false}
-use Prim.Native.Nat.{ℕ, _≤_, _<_}
+use mathlib.Core.Path.{_≡_, ap}
+use mathlib.Core.Bool.{false}
+use Prim.Native.Nat.{ℕ, suc, _+_, _*_, _/_, _%_, _^_, _≤_, _<_}
+use native.Mathlib.Nat.{le-trans, le-of-eq, mul-le-mul}
 use native.Mathlib.Omega.{arith}
 use lib.Dec.{T, lit<, lit≤}
-use lib.Ieee.{Float, nan, inf, fin, binary64, ofBits, mul, div, neg, le, lt}
-use lib.Ieee.Positive.{positive}
-use Rattle.std.specs.Floats.{withSign, roundEven}
+use lib.IntN.{natAbs}
+use lib.Pow.{pow-mono}
+use lib.Ieee.{Float, binary64, ofBits, mul, div, neg, le, lt}
+use lib.Ieee.Bits.{ofBits-fits}
+use lib.Ieee.Positive.{positive, between, mul-mono}
+use Rattle.std.specs.Floats.{roundEven}
+use Rattle.std.proofs.shelf.Bits.{mod-below}
 use Rattle.ieee.specs.Whole.{Whole}
-use Rattle.ieee.proofs.Patterns.{bits-order, bits-positive}
+use Rattle.ieee.specs.Meaning.{Operand}
+use Rattle.ieee.proofs.Bridge.{of-value}
+use Rattle.ieee.proofs.Patterns.{sized, normal, normal-value, bits-order, bits-positive}
 use Rattle.ieee.proofs.Between.{square-between, quotient-within}
 
--- bit patterns of positive normal numbers are in the order of the numbers
-pub bits-le : (a b : ℕ) → 0x0010000000000000 ≤ a → a ≤ b → b < 0x7ff0000000000000 → T (le (ofBits binary64 a) (ofBits binary64 b))
-bits-le a b p h q = bits-order a b p h q
+-- ---- a tail argument as an operand
+digits-within : (b x : ℕ) → b / 2 ^ 52 ≡ suc x → b < 0x403b39dc41e48bfd → sized x (b % 2 ^ 52) ≤ 2 ^ 53 * 2 ^ 1026
+digits-within b x e h =
+    let k : x ≤ 1026 = omega arith in
+    let m : 2 ^ x ≤ 2 ^ 1026 = pow-mono k in
+    let t : b % 2 ^ 52 < 2 ^ 52 = mod-below b (2 ^ 52) (lit< tt) in
+    let d : 2 ^ 52 + b % 2 ^ 52 ≤ 2 ^ 53 = omega arith in
+    mul-le-mul d m
 
--- the sign of what is above zero is clear already
-sign-clear : (x y : Float) → T (positive x) → T (le x y) → T (le (withSign false x) y)
-unfolding withSign
-sign-clear nan y p h = absurd p
-sign-clear (inf s) y p h = absurd p
-sign-clear (fin true m e) y p h = absurd p
-sign-clear (fin false m e) y p h = h
-
--- a tail argument is at most 2 ^ 400 in size
-pub tail-bounded : (b : ℕ) → 0x400713786d9c7c0a ≤ b → b < 0x403b39dc41e48bfd → T (le (withSign false (ofBits binary64 b)) (ofBits binary64 0x58f0000000000000))
-tail-bounded b p q =
-    sign-clear (ofBits binary64 b) (ofBits binary64 0x58f0000000000000) (bits-positive b (omega arith) (omega arith)) (bits-order b 0x58f0000000000000 (omega arith) (omega arith) (lit< tt))
+-- a tail argument is finite and at most 2 ^ 400 in size
+pub tail-operand : (b : ℕ) → 0x400713786d9c7c0a ≤ b → b < 0x403b39dc41e48bfd → Operand (ofBits binary64 b)
+tail-operand b p q =
+    let n = normal b (omega arith) (omega arith) in
+    let v = of-value (ofBits binary64 b) false (sized (n .x) (b % 2 ^ 52)) (normal-value b n) in
+    record {
+      holds = ofBits-fits binary64 b;
+      number = v .0;
+      small = le-trans (le-of-eq (ap natAbs (v .1))) (le-trans (digits-within b (n .x) (n .field) q) (lit≤ tt));
+    }
 
 -- the first argument of the tail, and the last ones of the two steps
 abbrev first : Float
@@ -44,6 +54,16 @@ fast-scale = ofBits binary64 0x40b71547652b82fe
 
 abbrev scale : Float
 scale = ofBits binary64 0x3ff71547652b82fe
+
+-- the square of a tail argument is above zero
+pub square-positive : (b : ℕ) → 0x400713786d9c7c0a ≤ b → b < 0x403b39dc41e48bfd → T (positive (mul binary64 (ofBits binary64 b) (ofBits binary64 b)))
+unfolding ofBits mul
+square-positive b p q =
+    let x = ofBits binary64 b in
+    let h = bits-positive b (omega arith) (omega arith) in
+    let l = bits-order 0x400713786d9c7c0a b (lit≤ tt) p (omega arith) in
+    let m = bits-order b 0x403b39dc41e48bfc (omega arith) (omega arith) (lit< tt) in
+    between (mul binary64 first first) (mul binary64 x x) (mul binary64 last last) tt tt (mul-mono binary64 first x first x tt h tt h l l) (mul-mono binary64 x last x last h tt h tt m m)
 
 -- the multiple of log 2 / 4096, where a fast step runs
 pub fast-multiple : (b : ℕ) → 0x400713786d9c7c0a ≤ b → b < 0x4039db1bb14e15ca →

@@ -5,17 +5,18 @@ use Prim.Native.Nat.{ℕ, _≤_, _<_}
 use native.Mathlib.Nat.{lt-of-lt-of-le, lt-of-le-of-lt}
 use native.Mathlib.Omega.{arith}
 use lib.Dec.{T, lit<, lit≤}
-use lib.Ieee.{Float, binary64, fits, ofBits, mul, div, neg, lt, le}
-use lib.Ieee.Bits.{ofBits-fits}
-use Rattle.std.specs.Floats.{withSign, roundEven}
+use lib.Ieee.{Float, binary64, ofBits, mul, div, neg, lt}
+use lib.Ieee.Positive.{positive}
 use Rattle.ieee.specs.Whole.{Whole}
+use Rattle.ieee.specs.Meaning.{Operand}
+use Rattle.ieee.proofs.Highs.{product-high}
 use Rattle.double_double.specs.declared.double_double.DoubleDouble.{DoubleDouble}
-use Rattle.double_double.specs.Ops.{Ops, Meaning, Operand, most}
+use Rattle.double_double.specs.Ops.{Ops, Meaning}
 use Rattle.double_double.specs.Pairs.{negated}
 use Rattle.erfc.specs.Exponentials.{multiple, accurateMultiple}
 use Rattle.erfc.specs.Rows.{Argument, fastThresholds, accurateThresholds, fastRow, accurateRow, fastEnd, tailEnd}
 use Rattle.erfc.specs.Asymptotics.{one, reciprocal}
-use Rattle.erfc.proofs.Ranges.{tail-bounded, fast-multiple, accurate-multiple, fast-threshold, accurate-threshold}
+use Rattle.erfc.proofs.Ranges.{tail-operand, square-positive, fast-multiple, accurate-multiple, fast-threshold, accurate-threshold}
 use Rattle.erfc.proofs.Search.{row-within}
 
 module _ (x : Float) (end : ℕ) (a : Argument x end) (q : end ≤ tailEnd) where
@@ -23,10 +24,7 @@ module _ (x : Float) (end : ℕ) (a : Argument x end) (q : end ≤ tailEnd) wher
   under = lt-of-lt-of-le (a .below) q
 
   pub operand : Operand x
-  operand = record {
-    holds = subst (λ (z : Float). T (fits binary64 z)) (sym (a .is)) (ofBits-fits binary64 (a .bits));
-    bounded = subst (λ (z : Float). T (le (withSign false z) most)) (sym (a .is)) (tail-bounded (a .bits) (a .first) under);
-  }
+  operand = subst Operand (sym (a .is)) (tail-operand (a .bits) (a .first) under)
 
   -- no tail argument passes the last threshold of the fast rows, nor that of accurate row 6
   pub fast-row-within : (y : Float) (r : ℕ) → y ≡ div binary64 one x → r ≡ fastRow y → r < 6
@@ -40,9 +38,12 @@ module _ (x : Float) (end : ℕ) (a : Argument x end) (q : end ≤ tailEnd) wher
       subst (λ (n : ℕ). n < 7) (sym f) (lt-of-le-of-lt (row-within accurateThresholds y 6 (lit< tt) t) (lit< tt))
 
 module _ {S : Type 0} (o : Ops S) (m : Meaning o) where
-  -- the negated square that the exponentials are given
+  -- the negated square that the exponentials are given: hi is the rounded square itself, since that is not zero
   square-is : (s s' : S) (u v : DoubleDouble) (x : Float) (end : ℕ) → Argument x end → end ≤ tailEnd → (s', u) ≡ o .product s x x → v ≡ negated u → v .hi ≡ neg (mul binary64 x x)
-  square-is s s' u v x end a q p e = let h = operand x end a q in ap (λ (w : DoubleDouble). w .hi) e ∙ ap neg (ap (λ w. w .1 .hi) p ∙ m .product s x x h h)
+  square-is s s' u v x end a q p e =
+      let h = operand x end a q in
+      let w = m .product s x x h h in
+      ap (λ (d : DoubleDouble). d .hi) e ∙ ap neg (ap (λ d. d .1 .hi) p ∙ product-high x x _ h h (w .high) (w .nearest) (subst (λ (z : Float). T (positive (mul binary64 z z))) (sym (a .is)) (square-positive (a .bits) (a .first) (lt-of-lt-of-le (a .below) q))))
 
   pub fast-whole : (s s' : S) (u v : DoubleDouble) (x : Float) → Argument x fastEnd → (s', u) ≡ o .product s x x → v ≡ negated u → Whole (multiple (v .hi)) 49000 4000000
   fast-whole s s' u v x a p e =

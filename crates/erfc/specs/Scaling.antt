@@ -1,10 +1,12 @@
 -- A sign, an f64 from its parts, and d times 2 ^ i in the Rust's steps. Definitions only.
 use Prim.Native.Nat.{ℕ, _+_, _*_, _%_, _^_}
-use mathlib.Core.Bool.{cond}
+use mathlib.Core.Path.{_≡_}
+use mathlib.Core.Bool.{true, cond}
 use lib.Bits.{bitOr}
 use lib.IntN.{ℤ, pos, negsuc, natAbs, _+ℤ_, _-ℤ_}
 use lib.Signed.{ltZ}
-use lib.Ieee.{Float, binary64, mul, ofBits}
+use lib.Ieee.{Float, nan, inf, fin, binary64, up, down, round, mul, ofBits}
+use Rattle.ieee.specs.Val.{val, Mult}
 use Rattle.erfc.specs.declared.dyadic_float.DyadicSign.{DyadicSign}
 use Rattle.erfc.specs.declared.dyadic_float.DyadicSign.the-variants.{Pos, Neg}
 
@@ -56,3 +58,13 @@ scaledUp d i =
 -- d times 2 ^ i
 unfoldable pub ldexpOf : Float → ℤ → Float
 ldexpOf d i = cond (ltZ i expMin) (scaledDown d i) (cond (ltZ expMax i) (scaledUp d i) (mul binary64 d (power i)))
+
+-- d times 2 ^ i, rounded once
+abbrev pub timesPower : Float → ℤ → Float
+timesPower nan i = nan
+timesPower (inf s) i = inf s
+timesPower (fin s m e) i = round binary64 s (m * up e * up i) (down e * down i)
+
+-- the first step down, if there is one, does not round: d is a whole number of 2 ^ -104, which is 2 ^ 970 units
+abbrev pub FirstExact : Float → ℤ → Type 0
+FirstExact d i = ltZ i expMin ≡ true → Mult 970 (val d)

@@ -54,7 +54,7 @@ good-sub x y j gx gy h =
     (record { holds = sub-fits binary64 x y; number = i .0; small = subst (λ (z : ℤ). natAbs z ≤ 2 ^ suc j) (sym (i .1)) (k .0) }, i .1)
 
 -- a result and what it rounds
-rounding : (s : ℤ) (z : ℤ) → s ≡ rz z → Rounds z s
+pub rounding : (s : ℤ) (z : ℤ) → s ≡ rz z → Rounds z s
 rounding s z e = subst (Rounds z) (sym e) (rounds z)
 
 -- ---- from_full_exact_add

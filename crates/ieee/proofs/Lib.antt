@@ -22,3 +22,15 @@ pub mod Unique
 pub mod Highs
 pub mod Closest
 pub mod Shift
+pub mod PlainNumber
+pub mod PlainMadd
+pub mod FusedMadd
+pub mod FusedPairs
+pub mod Compare
+pub mod Thresholds
+pub mod LargeFactors
+pub mod Ties
+pub mod Middle
+pub mod Wholes
+pub mod PlainWords
+pub mod Lost

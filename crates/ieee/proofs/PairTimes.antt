@@ -20,19 +20,19 @@ use Rattle.ieee.proofs.Bounded.{rq-le}
 use Rattle.ieee.proofs.Products.{good-times}
 
 -- a rounded whole number, in finer units
-scale-error : (s z : ℤ) (l : ℕ) → 2 ^ 53 * natAbs (s -ℤ z) ≤ natAbs z → 2 ^ 53 * natAbs (s *ℤ pos l -ℤ z *ℤ pos l) ≤ natAbs (z *ℤ pos l)
+pub scale-error : (s z : ℤ) (l : ℕ) → 2 ^ 53 * natAbs (s -ℤ z) ≤ natAbs z → 2 ^ 53 * natAbs (s *ℤ pos l -ℤ z *ℤ pos l) ≤ natAbs (z *ℤ pos l)
 scale-error s z l h =
     let e : natAbs (s *ℤ pos l -ℤ z *ℤ pos l) ≡ natAbs (s -ℤ z) * l = ap natAbs (sub-scaled s z (pos l)) ∙ abs-mul (s -ℤ z) (pos l) in
     let f : natAbs (z *ℤ pos l) ≡ natAbs z * l = abs-mul z (pos l) in
     omega (arith, mul-le-mul-right l h)
 
-rz-error : (s z : ℤ) → s ≡ rz z → 2 ^ 53 * natAbs (s -ℤ z) ≤ natAbs z
+pub rz-error : (s z : ℤ) → s ≡ rz z → 2 ^ 53 * natAbs (s -ℤ z) ≤ natAbs z
 rz-error s z e = rounds-error z s (subst (Rounds z) (sym e) (rounds z))
 
 regroup : (x y z w : ℤ) → x +ℤ y +ℤ (z +ℤ w) ≡ x +ℤ y +ℤ z +ℤ w
 regroup x y z w = omega lin
 
-pairs-are : (ah al bh bl : ℤ) → (ah +ℤ al) *ℤ (bh +ℤ bl) ≡ ah *ℤ bh +ℤ ah *ℤ bl +ℤ al *ℤ bh +ℤ al *ℤ bl
+pub pairs-are : (ah al bh bl : ℤ) → (ah +ℤ al) *ℤ (bh +ℤ bl) ≡ ah *ℤ bh +ℤ ah *ℤ bl +ℤ al *ℤ bh +ℤ al *ℤ bl
 pairs-are ah al bh bl = dist ah al (bh +ℤ bl) ∙ (λ i. dist-left ah bh bl i +ℤ dist-left al bh bl i) ∙ regroup (ah *ℤ bh) (ah *ℤ bl) (al *ℤ bh) (al *ℤ bl)
 
 pub pair-bound : (ah al bh bl ch c1 c2 c3 t1 t2 : ℤ) (l : ℕ) → 0 < l → natAbs ((ch +ℤ c1) *ℤ pos l -ℤ ah *ℤ bh) ≤ 2 * l → ch ≡ rq (ah *ℤ bh) l → t1 ≡ rq (ah *ℤ bl) l → t2 ≡ rq (al *ℤ bh) l → c2 ≡ rz (t1 +ℤ t2) → c3 ≡ rz (c1 +ℤ c2)
@@ -51,7 +51,7 @@ pair-bound ah al bh bl ch c1 c2 c3 t1 t2 l L h1 e0 e1 e2 e3 e4 =
     frac s z e = subst (λ (t : ℤ). 2 ^ 53 * natAbs (t *ℤ pos l -ℤ z) ≤ natAbs z + 2 ^ 52 * l) (sym e) (rq-error z l L)
 
 -- ---- the low part of a product is not large
-low-small : (h c p : ℤ) (k l : ℕ) → 0 < l → natAbs ((h +ℤ c) *ℤ pos l -ℤ p) ≤ 2 * l → natAbs p ≤ 2 ^ suc k * l → natAbs h ≤ 2 ^ suc (suc k) → natAbs c ≤ 2 ^ suc (suc (suc k))
+pub low-small : (h c p : ℤ) (k l : ℕ) → 0 < l → natAbs ((h +ℤ c) *ℤ pos l -ℤ p) ≤ 2 * l → natAbs p ≤ 2 ^ suc k * l → natAbs h ≤ 2 ^ suc (suc k) → natAbs c ≤ 2 ^ suc (suc (suc k))
 low-small h c p k l L a b d =
     let s = h +ℤ c in
     let K : 2 ≤ 2 ^ suc k = lib.Pow.pow-mono {i = 1} {j = suc k} (omega arith) in

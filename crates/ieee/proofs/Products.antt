@@ -36,10 +36,10 @@ good-mul x y i j k p gx gy e s h =
     (record { holds = mul-fits binary64 x y; number = w .0; small = subst (λ (z : ℤ). natAbs z ≤ 2 ^ k) (sym (w .1)) (m .0) }, w .1)
 
 -- ---- the split
-good-splitter : Good splitter 1102
+pub good-splitter : Good splitter 1102
 good-splitter = record { holds = unfold fits in tt; number = tt; small = lit≤ tt }
 
-splitter-times : (a : ℤ) → pos (2 ^ 27 + 1) *ℤ a *ℤ pos (2 ^ 1074) ≡ val splitter *ℤ a
+pub splitter-times : (a : ℤ) → pos (2 ^ 27 + 1) *ℤ a *ℤ pos (2 ^ 1074) ≡ val splitter *ℤ a
 splitter-times a = massoc (pos (2 ^ 27 + 1)) a (pos (2 ^ 1074)) ∙ ap (λ (z : ℤ). pos (2 ^ 27 + 1) *ℤ z) (mcomm a (pos (2 ^ 1074))) ∙ sym (massoc (pos (2 ^ 27 + 1)) (pos (2 ^ 1074)) a)
 
 pub record Split-of (a : Float) : Type 0 where

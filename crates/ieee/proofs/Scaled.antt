@@ -73,7 +73,7 @@ big a p k e r f h = (
           | inr l ↦ inr (cancel-le p (2 ^ 52 + up q) (down q) P (elim (r .lo) [ inl z ↦ (let p1 : p ≡ 1 = ap (λ (i : ℕ). 2 ^ i) z in omega zs) | inr (inl z) ↦ absurd (omega arith) | inr (inr z) ↦ omega zs ]))
         ]
 
-repr-scale : (a : ℤ) (n : ℕ) → Repr a → Repr (a *ℤ pos (2 ^ n))
+pub repr-scale : (a : ℤ) (n : ℕ) → Repr a → Repr (a *ℤ pos (2 ^ n))
 repr-scale a n r = record { q = r .q; j = r .j + n; small = r .small; is = ap (λ (z : ℤ). z *ℤ pos (2 ^ n)) (r .is) ∙ massoc (r .q) (pos (2 ^ (r .j))) (pos (2 ^ n)) ∙ ap (λ (z : ℕ). r .q *ℤ pos z) (sym (pow-add 2 (r .j) n)) }
 
 abbrev pub lift : ℤ → ℤ

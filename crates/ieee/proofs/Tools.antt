@@ -148,22 +148,22 @@ recip-off x y z t l =
 
 -- ---- the bound of the multiply-add, in units of 2 ^ -2148: p is a b, h + w the product pair, t + u the sum of h and c, m rounds w + u, and s rounds m + t
 module _ (p h w c t u m s : ℤ) (l : ℕ) (f : h +ℤ c ≡ t +ℤ u) where
-  m-1 : s -ℤ (p +ℤ c) ≡ (s -ℤ (m +ℤ t)) +ℤ ((m +ℤ t) -ℤ (p +ℤ c))
+  pub m-1 : s -ℤ (p +ℤ c) ≡ (s -ℤ (m +ℤ t)) +ℤ ((m +ℤ t) -ℤ (p +ℤ c))
   m-1 = omega lin
 
-  m-2 : (m +ℤ t) -ℤ (p +ℤ c) ≡ (m -ℤ (w +ℤ u)) +ℤ (h +ℤ w -ℤ p)
+  pub m-2 : (m +ℤ t) -ℤ (p +ℤ c) ≡ (m -ℤ (w +ℤ u)) +ℤ (h +ℤ w -ℤ p)
   m-2 = omega lin
 
-  m-3 : m +ℤ t ≡ ((m +ℤ t) -ℤ (p +ℤ c)) +ℤ (p +ℤ c)
+  pub m-3 : m +ℤ t ≡ ((m +ℤ t) -ℤ (p +ℤ c)) +ℤ (p +ℤ c)
   m-3 = omega lin
 
-  m-4 : w ≡ (h +ℤ w -ℤ p) -ℤ (h -ℤ p)
+  pub m-4 : w ≡ (h +ℤ w -ℤ p) -ℤ (h -ℤ p)
   m-4 = omega lin
 
-  m-5 : u ≡ negℤ (t -ℤ (h +ℤ c))
+  pub m-5 : u ≡ negℤ (t -ℤ (h +ℤ c))
   m-5 = omega lin
 
-  m-6 : h ≡ (h -ℤ p) +ℤ p
+  pub m-6 : h ≡ (h -ℤ p) +ℤ p
   m-6 = omega lin
 
   pub mul-add-bound : natAbs (h +ℤ w -ℤ p) ≤ 2 * l → 2 ^ 53 * natAbs (h -ℤ p) ≤ natAbs p + 2 ^ 52 * l → 2 ^ 53 * natAbs (t -ℤ (h +ℤ c)) ≤ natAbs (h +ℤ c) → 2 ^ 53 * natAbs (m -ℤ (w +ℤ u)) ≤ natAbs (w +ℤ u) → 2 ^ 53 * natAbs (s -ℤ (m +ℤ t)) ≤ natAbs (m +ℤ t)

@@ -3,3 +3,4 @@ pub mod Val
 pub mod Pairs
 pub mod Meaning
 pub mod Shifted
+pub mod Nearest

@@ -7,7 +7,7 @@ use crate::answer::Refusal;
 use crate::classes::Class;
 use crate::classes::classify;
 use crate::err::erf::Erf;
-use crate::exponents::auxiliary::ldexp;
+use crate::exponents::auxiliary::ldexp_steps;
 use crate::exponents::auxiliary::power_of_two;
 use crate::horner::AccurateLower;
 use crate::horner::AccurateLowerTerms;
@@ -291,12 +291,12 @@ fn scaled_value(v: DoubleDouble, k: i32) -> f64
     requires { ⌜ negsuc 1069 ≤ℤ k ⌝ ∗ ⌜ k ≤ℤ negsuc 11 ⌝ }
     ensures { λ r. ⌜ r ≡ scaledValue v k ⌝ }
 {
-    let res = ldexp(v.to_f64(), k);
+    let res = ldexp_steps(v.to_f64(), k);
     if res < f64_from_bits_with_nan(0x0010000000000000) {
         // a subnormal was rounded twice: add what the roundings lost
-        let mut corr = v.hi - ldexp(res, -k);
+        let mut corr = v.hi - ldexp_steps(res, -k);
         corr += v.lo;
-        return res + ldexp(corr, k);
+        return res + ldexp_steps(corr, k);
     }
     res
 }

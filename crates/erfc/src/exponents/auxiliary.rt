@@ -5,7 +5,8 @@ ghost use mathlib.Core.Path.{_≡_};
 ghost use lib.Ieee.{binary64, mul};
 ghost use lib.IntN.{negsuc, pos};
 ghost use lib.Signed.{_<ℤ_, _≤ℤ_};
-ghost use Rattle.erfc.specs.Scaling.{power, scaledDown, scaledUp, ldexpOf};
+ghost use Rattle.ieee.specs.Meaning.{Number};
+ghost use Rattle.erfc.specs.Scaling.{power, scaledDown, scaledUp, ldexpOf, timesPower, FirstExact};
 
 const EXP_MAX: i32 = 1023;
 
@@ -70,7 +71,7 @@ fn scaled_up(d: f64, i: i32) -> f64
 }
 
 // d * 2^i, in at most three products.
-pub fn ldexp(d: f64, i: i32) -> f64
+pub(crate) fn ldexp_steps(d: f64, i: i32) -> f64
     ensures { λ r. ⌜ r ≡ ldexpOf d i ⌝ }
 {
     if i < EXP_MIN {
@@ -80,4 +81,12 @@ pub fn ldexp(d: f64, i: i32) -> f64
     } else {
         times_power(d, i)
     }
+}
+
+// d * 2^i, rounded once where the first product does not round.
+pub fn ldexp(d: f64, i: i32) -> f64
+    ensures value { λ r. ⌜ r ≡ ldexpOf d i ⌝ }
+    ensures once { λ r. ⌜ (Number d → FirstExact d i → r ≡ timesPower d i) ⌝ }
+{
+    ldexp_steps(d, i)
 }

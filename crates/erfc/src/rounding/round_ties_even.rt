@@ -2,6 +2,8 @@
 ghost use mathlib.Core.Path.{_≡_};
 ghost use lib.Ieee.{binary64};
 ghost use Rattle.std.specs.Floats.{roundEven};
+ghost use Rattle.ieee.specs.Meaning.{Number};
+ghost use Rattle.ieee.specs.Nearest.{NearestWhole};
 ghost use Rattle.ieee.specs.Shifted.{shifted};
 
 // 2^51: below it the sum with 2^52 + 2^51 keeps its exponent.
@@ -17,7 +19,8 @@ fn shift_round(x: f64) -> f64
 
 // The nearest whole number, ties to even.
 pub fn round_ties_even(x: f64) -> f64
-    ensures { λ r. ⌜ r ≡ roundEven binary64 x ⌝ }
+    ensures value { λ r. ⌜ r ≡ roundEven binary64 x ⌝ }
+    ensures nearest { λ r. ⌜ (Number x → NearestWhole x r) ⌝ }
 {
     if -LIMIT < x && x < LIMIT {
         let r = shift_round(x);
