@@ -21,6 +21,10 @@ most = ofBits binary64 0x58f0000000000000
 abbrev pub least : Float
 least = ofBits binary64 0x03f0000000000000
 
+-- 2 ^ -899
+abbrev pub ample : Float
+ample = ofBits binary64 0x07c0000000000000
+
 -- 2 ^ 480
 abbrev pub lift : Float
 lift = ofBits binary64 0x5df0000000000000
@@ -39,6 +43,10 @@ reaches a b =
 -- where the multiply-add rounds once: operands bounded, a b and c each zero or at least 2 ^ -960 in size
 unfoldable pub fusedDomain : Float → Float → Float → Bool
 fusedDomain a b c = bounded a && bounded b && bounded c && (eq a zero || eq b zero || reaches a b) && (eq c zero || le least (size c))
+
+-- where plain's low part is a b - h exactly, h being a b rounded: operands bounded, h at least 2 ^ -899 in size
+abbrev pub lowIsExact : Float → Float → Float → Bool
+lowIsExact a b h = bounded a && bounded b && bounded h && le ample (size h)
 
 -- a b + c: IEEE 754's fusedMultiplyAdd in the domain, plain's elsewhere
 abbrev pub fusedMultiplyAdd : Float → Float → Float → Float

@@ -10,7 +10,7 @@ ghost use Rattle.ieee.specs.Val.{val};
 ghost use Rattle.ieee.specs.Meaning.{Operand, Settled, fine};
 ghost use Rattle.double_double.specs.Domain.{Domain};
 ghost use Rattle.double_double.specs.Plain.{plainMultiplyAdd};
-ghost use Rattle.double_double.specs.Fused.{bounded, reaches, fusedDomain, fusedMultiplyAdd, fusedProduct, fusedOps};
+ghost use Rattle.double_double.specs.Fused.{bounded, reaches, fusedDomain, lowIsExact, fusedMultiplyAdd, fusedProduct, fusedOps};
 use std::num::f64_from_bits_with_nan;
 
 #[derive(Clone, Copy, Drop)]
@@ -72,13 +72,28 @@ pub fn f_fmla(a: f64, b: f64, c: f64) -> f64
     multiply_add(a, b, c)
 }
 
-// a * b with the low part by the multiply-add.
+// Plain's low part is a * b - hi exactly, where hi is a * b rounded.
+fn low_part_is_exact(a: f64, b: f64, hi: f64) -> bool
+    ensures { λ r. ⌜ r ≡ lowIsExact a b hi ⌝ }
+{
+    // 2^-899, so that a * b is at least 2^-900 in size
+    is_bounded(a)
+        && is_bounded(b)
+        && is_bounded(hi)
+        && f64_from_bits_with_nan(0x07c0000000000000) <= hi.abs()
+}
+
+// a * b with the low part of the multiply-add.
 fn fused_product(a: f64, b: f64) -> DoubleDouble
     ensures { λ r. ⌜ r ≡ fusedProduct a b ⌝ }
 {
-    let r_hi = a * b;
-    let r_lo = multiply_add(a, b, -r_hi);
-    DoubleDouble::new(r_lo, r_hi)
+    let p = plain::from_exact_mult(a, b);
+    if low_part_is_exact(a, b, p.hi) {
+        // both low parts are a * b - hi; the sum makes a zero positive
+        return DoubleDouble::new(p.lo + 0.0, p.hi);
+    }
+    let r_lo = multiply_add(a, b, -p.hi);
+    DoubleDouble::new(r_lo, p.hi)
 }
 
 // a * b as a pair, exact where it is zero or at least 2^-900 in size.
@@ -114,9 +129,9 @@ pub impl Arithmetic for Fused as FusedArithmetic {
     }
 
     fn quick_mult_f64(&mut self, a: DoubleDouble, b: f64) -> DoubleDouble {
-        let h = b * a.hi;
-        let l = multiply_add(b, a.lo, multiply_add(b, a.hi, -h));
-        DoubleDouble { lo: l, hi: h }
+        let p = fused_product(b, a.hi);
+        let l = multiply_add(b, a.lo, p.lo);
+        DoubleDouble { lo: l, hi: p.hi }
     }
 
     fn dd_fmla(&mut self, a: f64, b: f64, c: f64) -> f64 {

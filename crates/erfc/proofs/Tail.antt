@@ -39,7 +39,7 @@ module _ (x : Float) (end : ℕ) (a : Argument x end) (q : end ≤ tailEnd) wher
 
 module _ {S : Type 0} (o : Ops S) (m : Meaning o) where
   -- the negated square that the exponentials are given: hi is the rounded square itself, since that is not zero
-  square-is : (s s' : S) (u v : DoubleDouble) (x : Float) (end : ℕ) → Argument x end → end ≤ tailEnd → (s', u) ≡ o .product s x x → v ≡ negated u → v .hi ≡ neg (mul binary64 x x)
+  pub square-is : (s s' : S) (u v : DoubleDouble) (x : Float) (end : ℕ) → Argument x end → end ≤ tailEnd → (s', u) ≡ o .product s x x → v ≡ negated u → v .hi ≡ neg (mul binary64 x x)
   square-is s s' u v x end a q p e =
       let h = operand x end a q in
       let w = m .product s x x h h in

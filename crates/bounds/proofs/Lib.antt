@@ -1,0 +1,4 @@
+pub mod Near
+pub mod Over
+pub mod FromMeaning
+pub mod RowAndK
