@@ -28,6 +28,7 @@ use double_double::double_double::DoubleDouble;
 use std::num::f64_from_bits_with_nan;
 use tables::err::erfc::accurate_number;
 use tables::err::erfc::asymptotic_number;
+use tables::err::erfc::asymptotic_turns;
 use tables::err::erfc::exp_number;
 use tables::exponents::exp::exp_reduce_0;
 use tables::exponents::exp::exp_reduce_1;
@@ -231,7 +232,7 @@ fn fast_polynomial<A: Arithmetic>(arith: &mut A, row: usize, u: DoubleDouble) ->
     let mut v = arith.quick_mult_f64(u, zh);
     let mut z_dd = DoubleDouble::from_exact_add(asymptotic_number(row, 9), v.hi);
     z_dd.lo += v.lo;
-    z_dd = evaluate(arith, &FastTerms { row }, 7, u, z_dd);
+    z_dd = evaluate(arith, &FastTerms { row }, asymptotic_turns(row), u, z_dd);
     v = arith.quick_mult(z_dd, u);
     z_dd = DoubleDouble::from_exact_add(asymptotic_number(row, 0), v.hi);
     z_dd.lo += v.lo + asymptotic_number(row, 1);
