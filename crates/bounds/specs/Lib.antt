@@ -2,4 +2,7 @@ pub mod Num
 pub mod Steps
 pub mod Floats
 pub mod Formulas
+pub mod Reciprocals
+pub mod FastExps
+pub mod FastPolynomials
 pub mod Promises
