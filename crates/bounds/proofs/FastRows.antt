@@ -10,11 +10,12 @@ use lib.Dec.{T, leb, leb→le}
 use lib.Ieee.{ofBits}
 use Rattle.double_double.specs.declared.double_double.DoubleDouble.{DoubleDouble}
 use Rattle.double_double.specs.Ops.{Ops, Meaning}
+use Rattle.erfc.specs.Rows.{fastThresholds}
 use Rattle.erfc.specs.Asymptotics.{fastPolynomial}
 use Rattle.bounds.specs.Num.{Q, _⊕_, _⊗_, mag, whole, tiny, Within}
 use Rattle.bounds.specs.Floats.{exactly}
 use Rattle.bounds.specs.Formulas.{sumOf, polynomial, rowCoefficients}
-use Rattle.bounds.specs.FastPolynomials.{squareBound, NearSquare, fastLimit}
+use Rattle.bounds.specs.Polynomials.{squareBound, NearSquare, fastLimit}
 use Rattle.bounds.proofs.Near as N
 use Rattle.bounds.proofs.Horner as H
 use Rattle.bounds.proofs.Chain.{G, G>0, Near, Abs, shr, size-of, sym-near, kept, moved, _then_}
@@ -23,7 +24,7 @@ use Rattle.bounds.proofs.FastPoly.{conj, fastTests, fastBounds, fast-holds}
 
 -- the bounds of u
 abbrev square : ℕ → ℕ
-square row = H.above G G>0 (squareBound row)
+square row = H.above G G>0 (squareBound fastThresholds row)
 
 abbrev pub argument : ℕ → State
 argument row = record { high = square row + (shr (square row) 51 + shr (square row) 98); low = shr (square row) 51; error = shr (square row) 98; size = square row }
@@ -60,9 +61,9 @@ limited a b e h k = record {
   ge = le-of-mul-le-mul-right (limit₀ _ _ (a .den * b .den) G e (2 ^ 73) (mul-le-mul-right (2 ^ 73) (h .ge)) (mul-le-mul-right (a .den * b .den) k)) G>0;
 }
 
-holds-argument : (row : ℕ) (u : DoubleDouble) (U : Q) → NearSquare row u U → Holds (argument row) u U
+holds-argument : (row : ℕ) (u : DoubleDouble) (U : Q) → NearSquare fastThresholds row u U → Holds (argument row) u U
 holds-argument row u U g =
-    let size = H.zero-abs G G>0 (N.within-near G G>0 (g .size) (size-of (squareBound row))) in
+    let size = H.zero-abs G G>0 (N.within-near G G>0 (g .size) (size-of (squareBound fastThresholds row))) in
     let low = H.zero-abs G G>0 (N.within-near G G>0 (g .low-small) (H.shr-ok G G>0 51 (N.abs-mag G G>0 size))) in
     let near = N.within-near G G>0 (g .near) (H.shr-ok G G>0 98 (N.abs-mag G G>0 size)) in
     record {
@@ -74,7 +75,7 @@ holds-argument row u U g =
     }
 
 module _ {S : Type 0} (o : Ops S) (m : Meaning o) where
-  pub polynomial-near : (s : S) (row : ℕ) (u : DoubleDouble) (U : Q) → row < 6 → NearSquare row u U → Within (sumOf (fastPolynomial o s row u .1)) (polynomial U (rowCoefficients row)) fastLimit
+  pub polynomial-near : (s : S) (row : ℕ) (u : DoubleDouble) (U : Q) → row < 6 → NearSquare fastThresholds row u U → Within (sumOf (fastPolynomial o s row u .1)) (polynomial U (rowCoefficients row)) fastLimit
   polynomial-near s row u U r g =
       let t = passes-at 6 row r table-passes in
       let h = fast-holds o m s row (argument row) u U (holds-argument row u U g) (H.and-l (conj (fastTests row (argument row))) (within-limit row) t) in

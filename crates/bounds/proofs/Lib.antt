@@ -22,3 +22,6 @@ pub mod FastExp
 pub mod Loop
 pub mod FastPoly
 pub mod FastRows
+pub mod AccuratePoly
+pub mod AccurateRows
+pub mod OfX

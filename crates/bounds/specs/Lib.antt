@@ -4,5 +4,5 @@ pub mod Floats
 pub mod Formulas
 pub mod Reciprocals
 pub mod FastExps
-pub mod FastPolynomials
+pub mod Polynomials
 pub mod Promises

@@ -17,7 +17,7 @@ pub fn exponentials_are_near<A: Arithmetic>(_arith: &A)
     ensures { λ _. ⌜ NearExponentials ops ⌝ }
 {}
 
-// The fast polynomial of every row is within 23 / 2^73 of the exact one.
+// The fast polynomial of every row is within 23 / 2^73 of the exact one, the accurate polynomial of every row within 2^-90.
 pub fn polynomials_are_near<A: Arithmetic>(_arith: &A)
     ensures { λ _. ⌜ NearPolynomials ops ⌝ }
 {}
