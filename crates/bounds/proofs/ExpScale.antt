@@ -28,7 +28,7 @@ use Rattle.bounds.proofs.Near as N
 use Rattle.bounds.proofs.Horner as H
 use Rattle.bounds.proofs.Relative as R
 use Rattle.bounds.proofs.Scale.{Least, near-least, near-scale}
-use Rattle.bounds.proofs.Chain.{G, G>0}
+use Rattle.bounds.proofs.Chain.{G, G>0, abs-to, moved, value-size}
 use Rattle.bounds.proofs.Sizes.{sized-operand, product-good}
 use Rattle.bounds.proofs.FromMeaning.{product-rounds}
 use Rattle.bounds.proofs.ExpProduct.{ProductNear}
@@ -97,12 +97,44 @@ module _ (n : ℕ) (h : n ≤ 976) where
         (same-over {x = part *ℤ pos (2 ^ suc n)} {k = 2 ^ suc n * 2 ^ 1074} (mul-pos (pow-pos (suc n)) (pow-pos 1074)) (over-scale (2 ^ suc n) (mul-comm (2 ^ 1074) (2 ^ suc n)) (over-units part))
         (subst (λ (z : ℤ). Over (tiny (suc n) ⊗ exactly x) z (2 ^ suc n * 2 ^ 1074)) (once (val x) ∙ sym part-is) (over-mul (over-tiny (suc n)) (over-units (val x)))))
 
+-- ---- 2 ^ -978 ≤ E ≤ 8
+pub record Between (E : Q) : Type 0 where
+  pub k : ℕ
+  pub is : E .up ≡ E .dn + k
+  pub least : E .den ≤ k * 2 ^ 978
+  pub most : k ≤ 8 * E .den
+
+between : (E : Q) (n : ℕ) (p : zero < G * 2 ^ suc n) → n ≤ 976 → Least (G * 2 ^ suc n) E (2 ^ 256 - 2 ^ 246) → N.Abs (G * 2 ^ suc n) p E (2 ^ 259 + 0) → Between E
+between E n p h l m = record { k = E .up - E .dn; is = e; least = least₀ (E .dn) (E .up) (E .up - E .dn) (E .den) (2 ^ suc n) (2 ^ 977) e (pow-mono {i = suc n} {j = 977} (omega arith)) (l .le); most = most₀ (E .dn) (E .up) (E .up - E .dn) (E .den) (2 ^ suc n) e (pow-pos (suc n)) (m .le) }
+  where
+    under : (a x b : ℕ) → a + x ≤ b → a ≤ b
+    under a x b h = omega arith
+
+    from : (a b : ℕ) → a ≤ b → b ≡ a + (b - a)
+    from a b h = omega arith
+
+    e : E .up ≡ E .dn + (E .up - E .dn)
+    e = from (E .dn) (E .up) (le-of-mul-le-mul-right (under (E .dn * (G * 2 ^ suc n)) ((2 ^ 256 - 2 ^ 246) * E .den) (E .up * (G * 2 ^ suc n)) (l .le)) p)
+
+    least₀ : (d u k D P T : ℕ) → u ≡ d + k → P ≤ T → d * (2 ^ 256 * P) + (2 ^ 256 - 2 ^ 246) * D ≤ u * (2 ^ 256 * P) → D ≤ k * (T * 2)
+    least₀ d u k D P T e q h = go d k D P T (mul-le-mul-left k q) (rw e at h)
+      where
+        go : (d k D P T : ℕ) → k * P ≤ k * T → d * (2 ^ 256 * P) + (2 ^ 256 - 2 ^ 246) * D ≤ (d + k) * (2 ^ 256 * P) → D ≤ k * (T * 2)
+        go d k D P T q h = omega arith
+
+    most₀ : (d u k D P : ℕ) → u ≡ d + k → zero < P → u * (2 ^ 256 * P) ≤ d * (2 ^ 256 * P) + (2 ^ 259 + 0) * D → k ≤ 8 * D
+    most₀ d u k D P e q h = go d k D P (mul-le-mul-left k q) (rw e at h)
+      where
+        go : (d k D P : ℕ) → k * 1 ≤ k * P → (d + k) * (2 ^ 256 * P) ≤ d * (2 ^ 256 * P) + (2 ^ 259 + 0) * D → k ≤ 8 * D
+        go d k D P q h = omega arith
+
 -- ---- a pair near e, scaled: near 2 ^ -(n + 1) e
 pub record Scaled (v : DoubleDouble) (E : Q) : Type 0 where
   pub low : Number (v .lo)
   pub high : Number (v .hi)
   pub near : Within (exactly (v .hi) ⊕ exactly (v .lo)) E (tiny 71 ⊗ mag E)
   pub low-small : Within (exactly (v .lo)) (whole 0) (tiny 40 ⊗ mag E)
+  pub between : Between E
 
 least-units : (z : ℤ) (m : ℕ) → Least G (units z) m → m * 2 ^ 1074 ≤ natAbs z * G
 least-units (pos k) m h = go m (2 ^ 1074) k G (h .le)
@@ -171,4 +203,5 @@ module _ (n : ℕ) (h : n ≤ 976) (v : DoubleDouble) (A B C : Q) (P : ProductNe
     high = product-good (v .hi) (two n h) high-operand (power-operand n h);
     near = R.relative G′ G′>0 71 sum-near least (lit≤ tt);
     low-small = R.relative-to G′ G′>0 40 (N.abs-near G′ G′>0 low-size (N.near-sym G′ G′>0 low-near)) least (lit≤ tt);
+    between = between (tiny (suc n) ⊗ A ⊗ B ⊗ C) n G′>0 h least (N.abs-near G′ G′>0 (R.abs-scale G G>0 (suc n) (abs-to (2 ^ 259) (moved (value-size (P .parts)) (P .near)) tt)) regrouped);
   }

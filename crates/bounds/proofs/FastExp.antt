@@ -29,7 +29,7 @@ use Rattle.erfc.proofs.Ranges.{tail-operand, square-positive, fast-multiple}
 use Rattle.erfc.proofs.Casts.{cast-is}
 use Rattle.bounds.specs.Num.{Q, _⊗_, Same}
 use Rattle.bounds.specs.Floats.{exactly, pairOf, minus}
-use Rattle.bounds.specs.Formulas.{integer, sumOf, residue}
+use Rattle.bounds.specs.Formulas.{integer, sumOf, residue, exponential}
 use Rattle.bounds.specs.FastExps.{FastExp}
 use Rattle.bounds.proofs.Scale.{Least}
 use Rattle.bounds.proofs.Chain.{G, Abs, abs-to, moved, sym-near, same-near, value-size}
@@ -40,7 +40,7 @@ use Rattle.bounds.proofs.ExpArg.{ArgNear, argument-near, high-near, d-low, d-h
 use Rattle.bounds.proofs.ExpPoly.{q1-near}
 use Rattle.bounds.proofs.ExpTables.{entry-0, entry-1}
 use Rattle.bounds.proofs.ExpProduct.{product-near-exact}
-use Rattle.bounds.proofs.ExpScale.{scaled}
+use Rattle.bounds.proofs.ExpScale.{Between, scaled}
 
 -- ---- a tail argument is at most 32
 digits-within : (b x : ℕ) → b / 2 ^ 52 ≡ suc x → b < 0x4039db1bb14e15ca → sized x (b % 2 ^ 52) ≤ 2 ^ 53 * 2 ^ 1026
@@ -105,6 +105,11 @@ module _ (n : ℕ) (low : 49000 ≤ suc n) (high : suc n ≤ 4000000) where
   index-1 : 64 - 1 - n % 64 < 64
   index-1 = omega arith
 
+-- the pair is near E(x), and E(x) is neither too small nor too large
+pub record SizedExp (x : Float) (k : ℤ) (e : DoubleDouble) : Type 0 where
+  pub fast : FastExp x k e
+  pub between : Between (exponential x k)
+
 module _ {S : Type 0} (o : Ops S) (m : Meaning o) where
   -- exp1 with the multiple f as a float and j as an integer
   abbrev steps : S → Float → ℤ → DoubleDouble → DoubleDouble
@@ -145,7 +150,7 @@ module _ {S : Type 0} (o : Ops S) (m : Meaning o) where
         (d-high f (k n low high) ks K (pairOf (d .lo) (d .hi)) M) (d-size f (k n low high) ks K (pairOf (d .lo) (d .hi)) M) (d-low f (k n low high) ks K (pairOf (d .lo) (d .hi)) M)
         (minus (exactly x ⊗ exactly x)) (integer (negsuc n) ⊗ sumOf log2Pair) (negated-near x xs l h U) (d-near f (k n low high) ks K (pairOf (d .lo) (d .hi)) M)
 
-    near-steps : FastExp x (negsuc n) (steps t f (negsuc n) (record { lo = neg l; hi = neg h }))
+    near-steps : SizedExp x (negsuc n) (steps t f (negsuc n) (record { lo = neg l; hi = neg h }))
     near-steps =
         let a = reducedArgument o t f (record { lo = neg l; hi = neg h }) in
         let y = a .1 in
@@ -160,22 +165,22 @@ module _ {S : Type 0} (o : Ops S) (m : Meaning o) where
         let W = abs-to (2 ^ 244) (moved (value-size (reduced .parts)) (reduced .near)) tt in
         let P = product-near-exact o m (a .0) (q .0) T1 T0 (q .1) w W (entry-1 (64 - 1 - n % 64) i) (entry-0 (64 - 1 - n / 64 % 64) j) Q in
         let Z = scaled (n / 4096) (exponent n low high) (o .pairTimesPair (q .0) (p .1) (q .1) .1) (sumOf T0) (sumOf T1) _ P in
-        record { low = Z .low; high = Z .high; near = Z .near; low-small = Z .low-small }
+        record { fast = record { low = Z .low; high = Z .high; near = Z .near; low-small = Z .low-small }; between = Z .between }
 
   -- the same with the multiple as exp1 computes it
   joined : (t : S) (x : Float) (u : DoubleDouble) (n : ℕ) → multiple (neg (u .hi)) ≡ ofInt binary64 (negsuc n) → toSigned 63 (multiple (neg (u .hi))) ≡ negsuc n → u .hi ≡ mul binary64 x x
-      → FastExp x (negsuc n) (steps t (ofInt binary64 (negsuc n)) (negsuc n) (negated u)) → FastExp x (multipleInt (neg (mul binary64 x x))) (exp1 o t (negated u) .1)
+      → SizedExp x (negsuc n) (steps t (ofInt binary64 (negsuc n)) (negsuc n) (negated u)) → SizedExp x (multipleInt (neg (mul binary64 x x))) (exp1 o t (negated u) .1)
   joined t x u n e c r F =
       let f = multiple (neg (u .hi)) in
-      let F₁ = subst (λ (z : Float). FastExp x (negsuc n) (steps t z (negsuc n) (negated u))) {x = ofInt binary64 (negsuc n)} {y = f} (sym e) F in
-      let F₂ = subst (λ (j : ℤ). FastExp x j (steps t f j (negated u))) {x = negsuc n} {y = toSigned 63 f} (sym c) F₁ in
-      subst (λ (z : Float). FastExp x (multipleInt (neg z)) (exp1 o t (negated u) .1)) {x = u .hi} {y = mul binary64 x x} r
-      (subst (FastExp x (toSigned 63 f)) {x = steps t f (toSigned 63 f) (negated u)} {y = exp1 o t (negated u) .1} (sym (steps-are t (negated u))) F₂)
+      let F₁ = subst (λ (z : Float). SizedExp x (negsuc n) (steps t z (negsuc n) (negated u))) {x = ofInt binary64 (negsuc n)} {y = f} (sym e) F in
+      let F₂ = subst (λ (j : ℤ). SizedExp x j (steps t f j (negated u))) {x = negsuc n} {y = toSigned 63 f} (sym c) F₁ in
+      subst (λ (z : Float). SizedExp x (multipleInt (neg z)) (exp1 o t (negated u) .1)) {x = u .hi} {y = mul binary64 x x} r
+      (subst (SizedExp x (toSigned 63 f)) {x = steps t f (toSigned 63 f) (negated u)} {y = exp1 o t (negated u) .1} (sym (steps-are t (negated u))) F₂)
 
   -- t is any state, u the product of x and x at some state s
-  pub exponential-near : (s t : S) (x : Float) (u : DoubleDouble) → Argument x fastEnd → o .product s x x .1 ≡ u →
-      FastExp x (multipleInt (neg (mul binary64 x x))) (exp1 o t (negated u) .1)
-  exponential-near s t x u a e =
+  pub exponential-sized : (s t : S) (x : Float) (u : DoubleDouble) → Argument x fastEnd → o .product s x x .1 ≡ u →
+      SizedExp x (multipleInt (neg (mul binary64 x x))) (exp1 o t (negated u) .1)
+  exponential-sized s t x u a e =
       let X = subst Operand (sym (a .is)) (tail-operand (a .bits) (a .first) (omega (arith, a .below))) in
       let xs = subst (λ (z : Float). Abs (exactly z) (2 ^ 261)) (sym (a .is)) (argument-size (a .bits) (a .first) (a .below)) in
       let U = subst (λ (d : DoubleDouble). ProductMeans x x (d .lo) (d .hi)) e (m .product s x x X X) in
@@ -183,3 +188,7 @@ module _ {S : Type 0} (o : Ops S) (m : Meaning o) where
       let r : u .hi ≡ mul binary64 x x = product-high x x (u .hi) X X (U .high) (U .nearest) p in
       let w = subst (λ (z : Float). Whole (multiple (neg z)) 49000 4000000) (sym (r ∙ ap (λ (z : Float). mul binary64 z z) (a .is))) (fast-multiple (a .bits) (a .first) (a .below)) in
       joined t x u (w .n) (w .is) (cast-is (multiple (neg (u .hi))) 49000 4000000 63 w (lit≤ tt) (lit≤ tt)) r (near-steps t x xs (u .lo) (u .hi) U (w .n) (w .least) (w .most) (w .is))
+
+  pub exponential-near : (s t : S) (x : Float) (u : DoubleDouble) → Argument x fastEnd → o .product s x x .1 ≡ u →
+      FastExp x (multipleInt (neg (mul binary64 x x))) (exp1 o t (negated u) .1)
+  exponential-near s t x u a e = exponential-sized s t x u a e .fast

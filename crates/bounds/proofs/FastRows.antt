@@ -23,27 +23,27 @@ use Rattle.bounds.proofs.Loop.{State, Holds}
 use Rattle.bounds.proofs.FastPoly.{conj, fastTests, fastBounds, fast-holds}
 
 -- the bounds of u
-abbrev square : ℕ → ℕ
+abbrev pub square : ℕ → ℕ
 square row = H.above G G>0 (squareBound fastThresholds row)
 
 abbrev pub argument : ℕ → State
 argument row = record { high = square row + (shr (square row) 51 + shr (square row) 98); low = shr (square row) 51; error = shr (square row) 98; size = square row }
 
-abbrev within-limit : ℕ → Bool
+abbrev pub within-limit : ℕ → Bool
 within-limit row = leb (fastBounds row (argument row) .error * 2 ^ 73) (23 * G)
 
-abbrev passes : ℕ → Bool
+abbrev pub passes : ℕ → Bool
 passes row = conj (fastTests row (argument row)) && within-limit row
 
-abbrev pass-below : ℕ → Bool
+abbrev pub pass-below : ℕ → Bool
 pass-below zero = true
 pass-below (suc n) = passes n && pass-below n
 
-table-passes : T (pass-below 6)
+pub table-passes : T (pass-below 6)
 unfolding ofBits
 table-passes = tt
 
-passes-at : (n row : ℕ) → row < n → T (pass-below n) → T (passes row)
+pub passes-at : (n row : ℕ) → row < n → T (pass-below n) → T (passes row)
 passes-at zero row h t = absurd (omega (arith, h))
 passes-at (suc n) row h t = go (decLe n row) (λ l. passes-at n row l (H.and-r (passes n) (pass-below n) t))
   where
@@ -61,7 +61,7 @@ limited a b e h k = record {
   ge = le-of-mul-le-mul-right (limit₀ _ _ (a .den * b .den) G e (2 ^ 73) (mul-le-mul-right (2 ^ 73) (h .ge)) (mul-le-mul-right (a .den * b .den) k)) G>0;
 }
 
-holds-argument : (row : ℕ) (u : DoubleDouble) (U : Q) → NearSquare fastThresholds row u U → Holds (argument row) u U
+pub holds-argument : (row : ℕ) (u : DoubleDouble) (U : Q) → NearSquare fastThresholds row u U → Holds (argument row) u U
 holds-argument row u U g =
     let size = H.zero-abs G G>0 (N.within-near G G>0 (g .size) (size-of (squareBound fastThresholds row))) in
     let low = H.zero-abs G G>0 (N.within-near G G>0 (g .low-small) (H.shr-ok G G>0 51 (N.abs-mag G G>0 size))) in

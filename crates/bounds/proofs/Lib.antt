@@ -25,3 +25,7 @@ pub mod FastRows
 pub mod AccuratePoly
 pub mod AccurateRows
 pub mod OfX
+pub mod Bracket
+pub mod Mixed
+pub mod FastTable
+pub mod FastAll

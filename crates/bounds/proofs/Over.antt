@@ -1,7 +1,7 @@
 -- A number as an integer over a whole number, and bounds between numbers by bounds between integers. Assumes nothing.
 use mathlib.Core.Path.{_≡_, refl, sym, ap, _∙_, subst}
 use Prim.Native.Nat.{ℕ, zero, suc, _+_, _*_, _-_, _^_, _≤_, _<_}
-use native.Mathlib.Nat.{mul-le-mul-right, le-of-mul-le-mul-right, eq-of-mul-eq-mul-right}
+use native.Mathlib.Nat.{mul-pos, mul-le-mul-right, le-of-mul-le-mul-right, eq-of-mul-eq-mul-right}
 use native.Mathlib.Decide.{decLe}
 use native.Mathlib.Omega.{arith}
 use lib.IntN.{ℤ, pos, negsuc, negℤ, natAbs, _+ℤ_, _-ℤ_, _*ℤ_}
@@ -136,3 +136,33 @@ same-over {a} {b} {x} {k} K h i = record {
   same = eq-of-mul-eq-mul-right k K (a .up * b .den + b .dn * a .den) (b .up * a .den + a .dn * b .den)
       (same₀ (a .up) (a .dn) (a .den) (b .up) (b .dn) (b .den) k (up x) (down x) (ap (λ (z : ℕ). z * b .den) (h .is)) (ap (λ (z : ℕ). z * a .den) (i .is)));
 }
+
+-- ---- and back
+lin-out : (a a′ b b′ r r′ xu xn yu yn e t : ℕ) → a + xn * t ≡ xu * t + a′ → b + yn * t ≡ yu * t + b′ → r + 0 * t ≡ e * t + r′ → a + b′ + r′ ≤ a′ + b + r → (xu + yn) * t ≤ (yu + xn + e) * t
+lin-out a a′ b b′ r r′ xu xn yu yn e t p q s h = omega arith
+
+out₀ : (au an ad bu bn bd ru rn rd k e xu xn yu yn : ℕ) → au * k + xn * ad ≡ xu * ad + an * k → bu * k + yn * bd ≡ yu * bd + bn * k → ru * k + 0 * rd ≡ e * rd + rn * k → (au * bd + bn * ad) * rd + rn * (ad * bd) ≤ (an * bd + bu * ad) * rd + ru * (ad * bd)
+    → (xu + yn) * (ad * bd * rd) ≤ (yu + xn + e) * (ad * bd * rd)
+out₀ au an ad bu bn bd ru rn rd k e xu xn yu yn p q r h =
+    let m : ((au * bd + bn * ad) * rd + rn * (ad * bd)) * k ≤ ((an * bd + bu * ad) * rd + ru * (ad * bd)) * k = mul-le-mul-right k h in
+    lin-out (au * k * (bd * rd)) (an * k * (bd * rd)) (bu * k * (ad * rd)) (bn * k * (ad * rd)) (ru * k * (ad * bd)) (rn * k * (ad * bd)) xu xn yu yn e (ad * bd * rd)
+    (times (au * k) xn xu (an * k) ad (bd * rd) (ad * bd * rd) p (first ad bd rd)) (times (bu * k) yn yu (bn * k) bd (ad * rd) (ad * bd * rd) q (second ad bd rd))
+    (times (ru * k) 0 e (rn * k) rd (ad * bd) (ad * bd * rd) r (third ad bd rd))
+    (rw (bring au ad bn bd rn rd k, bring an ad bu bd ru rd k) at m)
+  where
+    first : (a b c : ℕ) → a * (b * c) ≡ a * b * c
+    first a b c = omega arith
+
+    second : (a b c : ℕ) → b * (a * c) ≡ a * b * c
+    second a b c = omega arith
+
+    third : (a b c : ℕ) → c * (a * b) ≡ a * b * c
+    third a b c = omega arith
+
+pub within-out : {a b r : Q} {x y : ℤ} {e k : ℕ} → Over a x k → Over b y k → Over r (pos e) k → Within a b r → natAbs (x -ℤ y) ≤ e
+within-out {a} {b} {r} {x} {y} {e} {k} h i j w =
+    both x y e (le-of-mul-le-mul-right (out₀ (a .up) (a .dn) (a .den) (b .up) (b .dn) (b .den) (r .up) (r .dn) (r .den) k e (up x) (down x) (up y) (down y) (h .is) (i .is) (j .is) (w .le)) (mul-pos (mul-pos (a .ok) (b .ok)) (r .ok)))
+    (le-of-mul-le-mul-right (out₀ (a .dn) (a .up) (a .den) (b .dn) (b .up) (b .den) (r .up) (r .dn) (r .den) k e (down x) (up x) (down y) (up y) (turn (a .up) (a .dn) (a .den) k (up x) (down x) (h .is)) (turn (b .up) (b .dn) (b .den) k (up y) (down y) (i .is)) (j .is) (w .ge)) (mul-pos (mul-pos (a .ok) (b .ok)) (r .ok)))
+  where
+    both : (x y : ℤ) (e : ℕ) → up x + down y ≤ up y + down x + e → down x + up y ≤ down y + up x + e → natAbs (x -ℤ y) ≤ e
+    both x y e h i = omega zs

@@ -5,4 +5,5 @@ pub mod Formulas
 pub mod Reciprocals
 pub mod FastExps
 pub mod Polynomials
+pub mod FastSteps
 pub mod Promises

@@ -11,9 +11,10 @@ use Rattle.erfc.specs.Asymptotics.{one, reciprocal, squared, fastPolynomial, ac
 use Rattle.ieee.specs.Val.{val}
 use Rattle.bounds.specs.Num.{Q, _⊗_, Within}
 use Rattle.bounds.specs.Floats.{above}
-use Rattle.bounds.specs.Formulas.{sumOf, inverse, polynomial, rowCoefficients}
+use Rattle.bounds.specs.Formulas.{sumOf, inverse, polynomial, rowCoefficients, Bracketed}
 use Rattle.bounds.specs.Reciprocals.{Reciprocal, Square}
 use Rattle.bounds.specs.FastExps.{FastExp}
+use Rattle.bounds.specs.FastSteps.{NearFormula}
 use Rattle.bounds.specs.Polynomials.{NearSquare, fastLimit, accurateLimit, accurateCoefficients}
 
 -- row and k of the fast step, row and K of the accurate one, are functions of x alone
@@ -38,3 +39,8 @@ pub record NearExponentials {S : Type 0} (o : Ops S) : Type 0 where
 pub record NearPolynomials {S : Type 0} (o : Ops S) : Type 0 where
   pub fast : (s : S) (row : ℕ) (u : DoubleDouble) (U : Q) → row < 6 → NearSquare fastThresholds row u U → Within (sumOf (fastPolynomial o s row u .1)) (polynomial U (rowCoefficients row)) fastLimit
   pub accurate : (s : S) (row : ℕ) (u : DoubleDouble) (U : Q) → row < 10 → NearSquare accurateThresholds row u U → Within (sumOf (accuratePolynomial o s row u .1)) (polynomial U (accurateCoefficients row)) accurateLimit
+
+-- the fast step's pair is near F(x), and F(x) lies between the ends of the rounding test
+pub record Brackets {S : Type 0} (o : Ops S) : Type 0 where
+  pub near : (s : S) (x : Float) (p : 0 < above (val x)) → Argument x fastEnd → NearFormula x p (fastStep o s x .1)
+  pub bracketed : (s : S) (x : Float) (p : 0 < above (val x)) → Argument x fastEnd → Bracketed x p (fastStep o s x .1)
