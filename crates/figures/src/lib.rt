@@ -1,4 +1,5 @@
 // Theorems that the contracts of other crates rest on, each the contract of a function that does nothing.
+#![tactic(auto)]
 ghost use Rattle.figures.specs.Figures.{Figures};
 ghost use Rattle.figures.specs.Rounding.{RoundIsNearest};
 

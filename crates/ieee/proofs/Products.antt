@@ -144,7 +144,7 @@ same_near : (x y : ℤ) (b : ℕ) → x ≡ y → nat_abs (x -ℤ y) ≤ b
 same_near x y b e = near_abs x y b (let f = borrow.Author.Differences.same_out x y e in (omega arith, omega arith))
 
 none : (z : ℤ) → nat_abs z ≡ 0 → z ≡ pos 0
-none z e = omega (zs, borrow.Author.Differences.abs-is z)
+none z e = omega (zs, borrow.Author.Differences.abs_is z)
 
 not_large : (a b : ℤ) → a *ℤ b ≡ pos 0 → 0 < nat_abs a → 0 < nat_abs b → ⊥
 not_large a b e p q = lt_irrefl 0 (lt_of_lt_of_le (native.Mathlib.Nat.mul-pos p q) (le_of_eq (sym (abs_mul a b) ∙ ap nat_abs e)))

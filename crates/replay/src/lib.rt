@@ -1,3 +1,4 @@
 // The comparison with answers of the Rust, line by line.
+#![tactic(auto)]
 pub mod compare;
 pub mod line;

@@ -1,3 +1,4 @@
 // The constant tables of the port.
+#![tactic(auto)]
 pub mod err;
 pub mod exponents;
