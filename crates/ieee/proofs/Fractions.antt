@@ -7,7 +7,7 @@ use borrow.Author.Differences.{up as plus, down as less, neg_is}
 use Rattle.ieee.specs.Val.{signed, val, rnd, rq, rz, Under}
 use Rattle.ieee.proofs.Ints.{zs, Lt, Le, neg_mul, mul_neg}
 use Rattle.ieee.proofs.Round.{rnd_same, error}
-use Rattle.ieee.proofs.Whole.{order, Repr, Rounds, nearest}
+use Rattle.ieee.proofs.Whole.{Repr, Rounds, nearest}
 use Rattle.ieee.proofs.Bridge.{mag, mag_is, Is, round_to, abs_signed, rnd_zero}
 
 -- ---- a fraction with a sign

@@ -6,7 +6,7 @@ use Rattle.ieee.specs.Val.{val, rq, rz}
 use Rattle.ieee.specs.Pairs.{Good, Times}
 use Rattle.ieee.specs.Meaning.{IsF64, fine, Settled, MaddMeans}
 use Rattle.ieee.proofs.Ints.{zs, abs_mul}
-use Rattle.ieee.proofs.Whole.{rounds, Repr}
+use Rattle.ieee.proofs.Whole.{Repr}
 use Rattle.ieee.proofs.Bridge.{val_repr}
 use Rattle.ieee.proofs.Product.{cancel}
 use Rattle.ieee.proofs.Fractions.{rq_whole}

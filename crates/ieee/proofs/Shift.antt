@@ -7,7 +7,7 @@ use lib.Ieee.Back.{round_whole, whole_unique}
 use lib.Ieee.Exact.{HasValue}
 use lib.Ieee.Fits.{add-fits, sub-fits, round-fits, down_pos, and_l}
 use lib.Ieee.Nearest.{closest, closest_same}
-use lib.Ieee.Scale.{finite, round_same}
+use lib.Ieee.Scale.{round_same}
 use Rattle.std.specs.Float.{round_ties_even, round_with}
 use Rattle.ieee.specs.Val.{signed, val, rz, Under}
 use Rattle.ieee.proofs.Ints.{zs, cancel_lt}

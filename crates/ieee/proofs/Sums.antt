@@ -1,5 +1,5 @@
 -- Sums of two numbers of 53 digits: the error is such a number, and FastTwoSum and TwoSum find it. Assumes nothing.
-use Rattle.std.proofs.Common.{◌≡◌, ℕ, zero, suc, ◌+◌, ◌-◌, ◌*◌, ◌^◌, ◌<◌, ◌≤◌, ℤ, pos, ◌+ℤ◌, ◌-ℤ◌, ◌*ℤ◌, neg_ℤ, nat_abs, sym, refl, ap, ◌∙◌, subst, inl, inr, mul-le-mul_right, arith, pow_pos, pow_mono}
+use Rattle.std.proofs.Common.{◌≡◌, ℕ, suc, ◌+◌, ◌-◌, ◌*◌, ◌^◌, ◌<◌, ◌≤◌, ℤ, pos, ◌+ℤ◌, ◌-ℤ◌, ◌*ℤ◌, neg_ℤ, nat_abs, sym, refl, ap, ◌∙◌, subst, inl, inr, mul-le-mul_right, arith, pow_pos, pow_mono}
 use borrow.Author.Differences.{up, down, same_out}
 use Rattle.ieee.specs.Val.{Mult}
 use Rattle.ieee.proofs.Ints.{zs, Le, Lt, neg_mul, cancel_le, cancel_lt}

@@ -1,6 +1,5 @@
 -- Absolute values of sums and products, and how to prove what is not linear. Assumes nothing.
 use Rattle.std.proofs.Common.{◌≡◌, ℕ, zero, suc, ◌+◌, ◌-◌, ◌*◌, ◌^◌, ◌≤◌, ℤ, pos, negsuc, ◌+ℤ◌, ◌-ℤ◌, ◌*ℤ◌, neg_ℤ, nat_abs, sym, refl, ap, ◌∙◌, le_trans, le_of_eq, arith}
-use native.Mathlib.Numerals.{bound}
 use borrow.Author.Differences.{up, sum_is_lem, neg_is, same_in, same_out, abs_is}
 use Rattle.ieee.proofs.Ints.{zs, abs_mul, massoc, mcomm, dist, neg_mul, mul_neg}
 use Rattle.ieee.proofs.Product.{dist_left}

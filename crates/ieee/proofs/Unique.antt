@@ -2,7 +2,6 @@
 use Rattle.std.proofs.Common.{◌≡◌, ℕ, zero, suc, ◌+◌, ◌-◌, ◌*◌, ◌/◌, ◌^◌, ◌<◌, Bool, true, false, cond, nat_abs, sym, ap, ◌∙◌, subst, arith}
 use lib.Ieee.{Float, nan, inf, fin, binary64, to_bits, of_bits, size, hid, top, up, down}
 use lib.Ieee.Bits.{of_bits-to_bits}
-use lib.Ieee.Scale.{finite}
 use Rattle.ieee.specs.Val.{val, signed}
 use Rattle.ieee.specs.Meaning.{Number}
 use Rattle.ieee.proofs.Bridge.{abs_signed}

@@ -1,8 +1,7 @@
-use Rattle.std.proofs.Common.{◌≡◌, Bool, true, false, cond, T, sym, refl, ap, ◌∙◌, subst, rules}
-use lib.Ieee.{Float, binary64, fits}
+use Rattle.std.proofs.Common.{◌≡◌, Bool, true, false, cond, T, refl, ap, ◌∙◌, rules}
+use lib.Ieee.{binary64, fits}
 use lib.Ieee.Bits.{is_true}
 use Rattle.std.specs.Float.{float_mul_add}
-use Rattle.double_double.specs.Domain.{Domain}
 use Rattle.double_double.specs.Plain.{plain_multiply_add}
 use Rattle.double_double.specs.Fused.{fused_domain}
 use Rattle.double_double.specs.FusedMeaning.{in_domain, domain_in}
@@ -23,7 +22,7 @@ returns c =
     let fd : T (fits binary64 d) = search rules in
     let choice = λ (t : Bool). cond t (float_mul_add binary64 a b d) (plain_multiply_add a b d) in
     record {
-      value = c.multiply-add.ensures;
-      inside = λ h. c.multiply-add.ensures ∙ ap choice (is_true (fused_domain a b d) (in_domain a b d h));
-      outside = λ h. c.multiply-add.ensures ∙ ap choice (fails (fused_domain a b d) (λ t. h (domain_in a b d fa fb fd t)));
+      value = c.multiply_add.ensures;
+      inside = λ h. c.multiply_add.ensures ∙ ap choice (is_true (fused_domain a b d) (in_domain a b d h));
+      outside = λ h. c.multiply_add.ensures ∙ ap choice (fails (fused_domain a b d) (λ t. h (domain_in a b d fa fb fd t)));
     }

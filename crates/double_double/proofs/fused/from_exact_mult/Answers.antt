@@ -10,6 +10,6 @@ returns c =
     let a = c.args.a in
     let b = c.args.b in
     record {
-      value = c.fused-product.ensures;
-      exact = λ p q s. subst (λ (r : DoubleDouble). fine (val r.hi +ℤ val r.lo) ≡ val a *ℤ val b) (sym c.fused-product.ensures) (fused_exact a b p q s);
+      value = c.fused_product.ensures;
+      exact = λ p q s. subst (λ (r : DoubleDouble). fine (val r.hi +ℤ val r.lo) ≡ val a *ℤ val b) (sym c.fused_product.ensures) (fused_exact a b p q s);
     }

@@ -10,6 +10,6 @@ pub returns-else-c : goal.returns-else-c
 unfolding fused_domain
 returns-else-c c = search rules
 
-pub returns-else-product-reaches : goal.returns-else-product-reaches
+pub returns-else-product_reaches : goal.returns-else-product_reaches
 unfolding fused_domain
-returns-else-product-reaches c = search rules
+returns-else-product_reaches c = search rules

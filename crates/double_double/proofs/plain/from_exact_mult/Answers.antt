@@ -10,6 +10,6 @@ returns c =
     let a = c.args.a in
     let b = c.args.b in
     record {
-      value = c.dekker-product.ensures;
-      exact = λ p q s. subst (λ (r : DoubleDouble). fine (val r.hi +ℤ val r.lo) ≡ val a *ℤ val b) (sym c.dekker-product.ensures) (plain_exact a b p q s);
+      value = c.dekker_product.ensures;
+      exact = λ p q s. subst (λ (r : DoubleDouble). fine (val r.hi +ℤ val r.lo) ≡ val a *ℤ val b) (sym c.dekker_product.ensures) (plain_exact a b p q s);
     }

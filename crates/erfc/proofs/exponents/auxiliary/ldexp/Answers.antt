@@ -5,5 +5,5 @@ use Rattle.erfc.proofs.exponents.auxiliary.ldexp.Goals as goal
 
 pub returns : goal.returns
 returns c =
-    let v : c.ldexp-steps.result ≡ ldexp_of c.args.d c.args.i = search rules in
+    let v : c.ldexp_steps.result ≡ ldexp_of c.args.d c.args.i = search rules in
     record { value = v; once = λ n h. v ∙ once c.args.d c.args.i n h }

@@ -2,14 +2,14 @@ use Rattle.std.proofs.Common.{rules}
 use Rattle.erfc.specs.Scaling.{ldexp_of}
 use Rattle.erfc.proofs.exponents.auxiliary.ldexp_steps.Goals as goal
 
-pub returns-then-i-lt-EXP-MIN : goal.returns-then-i-lt-EXP-MIN
+pub returns-then-i-lt-EXP_MIN : goal.returns-then-i-lt-EXP_MIN
 unfolding ldexp_of
-returns-then-i-lt-EXP-MIN c = search rules
+returns-then-i-lt-EXP_MIN c = search rules
 
-pub returns-then-i-gt-EXP-MAX : goal.returns-then-i-gt-EXP-MAX
+pub returns-then-i-gt-EXP_MAX : goal.returns-then-i-gt-EXP_MAX
 unfolding ldexp_of
-returns-then-i-gt-EXP-MAX c = search rules
+returns-then-i-gt-EXP_MAX c = search rules
 
-pub returns-else-i-gt-EXP-MAX : goal.returns-else-i-gt-EXP-MAX
+pub returns-else-i-gt-EXP_MAX : goal.returns-else-i-gt-EXP_MAX
 unfolding ldexp_of
-returns-else-i-gt-EXP-MAX c = search rules
+returns-else-i-gt-EXP_MAX c = search rules

@@ -29,14 +29,14 @@ both x r e n = subst (NearestWhole x) (sym e) (whole_nearest x n)
 pub returns-then-r : goal.returns-then-r
 returns-then-r c =
     let f : T (fits binary64 c.args.x) = search rules in
-    let e = shift_zero c.args.x f (low_side c.args.x c.if-x.true) (holds _ c.if-x-2.true) (test_of _ c.args.x true c.shift-round-r.ensures c.if-r.true) in
+    let e = shift_zero c.args.x f (low_side c.args.x c.if-x.true) (holds _ c.if-x-2.true) (test_of _ c.args.x true c.shift_round-r.ensures c.if-r.true) in
     record { value = e; nearest = both c.args.x _ e }
 
 pub returns-else-r : goal.returns-else-r
 returns-else-r c =
     let f : T (fits binary64 c.args.x) = search rules in
-    let e = c.shift-round-r.ensures ∙ shift_round c.args.x f (low_side c.args.x c.if-x.true) (holds _ c.if-x-2.true) (test_of _ c.args.x false c.shift-round-r.ensures c.if-r.false) in
+    let e = c.shift_round-r.ensures ∙ shift_round c.args.x f (low_side c.args.x c.if-x.true) (holds _ c.if-x-2.true) (test_of _ c.args.x false c.shift_round-r.ensures c.if-r.false) in
     record { value = e; nearest = both c.args.x _ e }
 
 pub returns-else-x : goal.returns-else-x
-returns-else-x c = record { value = c.round-ties-even.ensures; nearest = both c.args.x _ c.round-ties-even.ensures }
+returns-else-x c = record { value = c.round_ties_even.ensures; nearest = both c.args.x _ c.round_ties_even.ensures }
