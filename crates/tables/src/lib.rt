@@ -1,4 +1,5 @@
 // The constant tables of the port.
 #![tactic(auto)]
+
 pub mod err;
 pub mod exponents;
