@@ -1,5 +1,5 @@
 -- The Horner loops, over any arithmetic. Definitions only.
-use Rattle.std.specs.Prelude.{ℕ, zero, suc, ◌+◌, Float}
+use Rattle.std.specs.Prelude.{ℕ, zero, suc, Float}
 use Rattle.std.specs.Float.{binary64}
 use Rattle.std.specs.Float.Ieee.{add}
 use Rattle.double_double.specs.declared.double_double.DoubleDouble.{DoubleDouble}

@@ -1,5 +1,5 @@
 -- A sign, an f64 from its parts, and d times 2 ^ i in the Rust's steps. Definitions only.
-use Rattle.std.specs.Prelude.{◌≡◌, ℕ, ◌+◌, ◌*◌, ◌%◌, ◌^◌, true, cond, ℤ, pos, negsuc, ◌+ℤ◌, ◌-ℤ◌, bit_or, from_bits, int_lt, unsigned_abs, Float}
+use Rattle.std.specs.Prelude.{◌≡◌, ℕ, ◌*◌, ◌%◌, ◌^◌, true, cond, ℤ, pos, negsuc, ◌+ℤ◌, ◌-ℤ◌, bit_or, from_bits, int_lt, unsigned_abs, Float}
 use Rattle.std.specs.Float.{nan, inf, fin, binary64}
 use Rattle.std.specs.Float.Ieee.{up, down, round, mul}
 use Rattle.ieee.specs.Val.{val, Mult}

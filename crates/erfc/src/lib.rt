@@ -1,5 +1,6 @@
 // The tail and the flat ends of pxfm's f_erfc, over any arithmetic.
 #![tactic(auto)]
+
 pub mod answer;
 pub mod classes;
 pub mod dyadic_float;

@@ -34,18 +34,18 @@ pub record Normal (b : ℕ) : Type 0 where
   pub x : ℕ
   pub field : b / 2 ^ 52 ≡ suc x
   pub most : x < 2046
-  pub Under : b < 2 ^ 63
+  pub under : b < 2 ^ 63
 
 pub normal : (b : ℕ) → 0x0010000000000000 ≤ b → b < 0x7ff0000000000000 → Normal b
 normal b h k = go (b / 2 ^ 52) (omega arith)
   where
     go : (y : ℕ) → b / 2 ^ 52 ≡ y → Normal b
     go zero e = absurd (omega arith)
-    go (suc x) e = record { x = x; field = e; most = omega arith; Under = omega arith }
+    go (suc x) e = record { x = x; field = e; most = omega arith; under = omega arith }
 
 pub normal_value : (b : ℕ) (n : Normal b) → HasValue (of_bits binary64 b) false (sized n.x (b % 2 ^ 52)) (2 ^ 1074)
 normal_value b n =
-    subst (λ (z : Float). HasValue z false (sized n.x (b % 2 ^ 52)) (2 ^ 1074)) (sym (opened b (suc n.x) n.Under n.field)) (fields_value n.x (b % 2 ^ 52) n.most)
+    subst (λ (z : Float). HasValue z false (sized n.x (b % 2 ^ 52)) (2 ^ 1074)) (sym (opened b (suc n.x) n.under n.field)) (fields_value n.x (b % 2 ^ 52) n.most)
 
 sized_pos : (x t : ℕ) → 0 < sized x t
 sized_pos x t = mul-pos (omega arith) (pow_pos x)

@@ -59,7 +59,7 @@ fn judge(answer: &Answer, argument: u64, end: u64, expected: u64) -> Comparison
 
 // f_erfc of the argument over this arithmetic, against the expected bits.
 pub fn replay<A: Arithmetic>(arith: &mut A, argument: u64, expected: u64) -> Comparison
-    ensures { (arith.new, result) ≡ replayed ops compared_below arith.old argument expected }
+    ensures { (arith.new, result) ≡ replayed A.Arithmetic.ops A.Arithmetic.compared_below arith.old argument expected }
 {
     match f_erfc(arith, argument) {
         Ok(answer) => judge(&answer, argument, A::comparison_end(), expected),

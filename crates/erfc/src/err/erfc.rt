@@ -29,7 +29,7 @@ const LISTED_ANSWER: u64 = 0x000667bd620fd95b;
 
 // A polynomial for exp(z), for |z| < 2^-12.88.
 fn q_1<A: Arithmetic>(arith: &mut A, z_dd: DoubleDouble) -> DoubleDouble
-    ensures { (arith.new, result) ≡ q1 ops arith.old z_dd }
+    ensures { (arith.new, result) ≡ q1 A.Arithmetic.ops arith.old z_dd }
 {
     const C: [u64; 5] = [
         0x3ff0000000000000,
@@ -72,7 +72,7 @@ fn reduced_indices(k: i64) -> (i64, usize, usize)
 
 // x without k times log(2)/4096.
 fn reduced_argument<A: Arithmetic>(arith: &mut A, k: f64, x: DoubleDouble) -> DoubleDouble
-    ensures { (arith.new, result) ≡ reduced_argument ops arith.old k x }
+    ensures { (arith.new, result) ≡ reduced_argument A.Arithmetic.ops arith.old k x }
 {
     let log2_dd = DoubleDouble::from_bit_pair((0x3bbabc9e3b39803f, 0x3f262e42fefa39ef));
     let k_dd = arith.quick_mult_f64(log2_dd, k);
@@ -94,7 +94,7 @@ fn exp_1<A: Arithmetic>(arith: &mut A, x: DoubleDouble) -> Exp1
     ensures k { result.k ≡ multiple_int x.hi }
     ensures k_low { negsuc 3999999 ≤ℤ result.k }
     ensures k_high { result.k ≤ℤ negsuc 48999 }
-    ensures result { (arith.new, result.result) ≡ exp1 ops arith.old x }
+    ensures result { (arith.new, result.result) ≡ exp1 A.Arithmetic.ops arith.old x }
 {
     const INVLOG2: u64 = 0x40b71547652b82fe;
     let k = round_ties_even(x.hi * f64_from_bits_with_nan(INVLOG2));
@@ -130,7 +130,7 @@ fn negated(k: i32) -> f64
 
 // x without k times log(2); j is -k.
 fn accurate_argument<A: Arithmetic>(arith: &mut A, j: f64, x_dd: DoubleDouble) -> DoubleDouble
-    ensures { (arith.new, result) ≡ accurate_argument ops arith.old j x_dd }
+    ensures { (arith.new, result) ≡ accurate_argument A.Arithmetic.ops arith.old j x_dd }
 {
     const LOG2_H: u64 = 0x3fe62e42fefa39ef;
     // 38 bits, so that k times it is exact
@@ -145,7 +145,7 @@ fn accurate_argument<A: Arithmetic>(arith: &mut A, j: f64, x_dd: DoubleDouble) -
 
 // Degrees 19 to 15 of the exponential's polynomial: the low part of y matters from degree 15 down.
 fn leading_degrees<A: Arithmetic>(arith: &mut A, y_dd: DoubleDouble) -> DoubleDouble
-    ensures { (arith.new, result) ≡ leading_degrees ops arith.old y_dd }
+    ensures { (arith.new, result) ≡ leading_degrees A.Arithmetic.ops arith.old y_dd }
 {
     let mut h = exp_number(19 + 8);
     h = arith.dd_fmla(h, y_dd.hi, exp_number(18 + 8));
@@ -171,7 +171,7 @@ fn exp_accurate<A: Arithmetic>(arith: &mut A, x_dd: DoubleDouble) -> Exp
     ensures e { result.e ≡ accurate_multiple_int x_dd.hi }
     ensures e_low { negsuc 1069 ≤ℤ result.e }
     ensures e_high { result.e ≤ℤ negsuc 11 }
-    ensures result { (arith.new, result.result) ≡ exp_accurate ops arith.old x_dd }
+    ensures result { (arith.new, result.result) ≡ exp_accurate A.Arithmetic.ops arith.old x_dd }
 {
     const LOG2INV: u64 = 0x3ff71547652b82fe;
     let k = as_small_integer(round_ties_even(x_dd.hi * f64_from_bits_with_nan(LOG2INV)));
@@ -184,7 +184,7 @@ fn exp_accurate<A: Arithmetic>(arith: &mut A, x_dd: DoubleDouble) -> Exp
 
 // 1/x as a pair, by one step of Newton: y + y*(1 - x*y).
 fn reciprocal_pair<A: Arithmetic>(arith: &mut A, x: f64) -> DoubleDouble
-    ensures { (arith.new, result) ≡ reciprocal ops arith.old x }
+    ensures { (arith.new, result) ≡ reciprocal A.Arithmetic.ops arith.old x }
 {
     let yh = 1.0 / x;
     let yl = yh * arith.dd_fmla(-x, yh, 1.0);
@@ -193,7 +193,7 @@ fn reciprocal_pair<A: Arithmetic>(arith: &mut A, x: f64) -> DoubleDouble
 
 // The square of 1/x as a pair; the square of the low part is too small to matter.
 fn reciprocal_square<A: Arithmetic>(arith: &mut A, y: DoubleDouble) -> DoubleDouble
-    ensures { (arith.new, result) ≡ squared ops arith.old y }
+    ensures { (arith.new, result) ≡ squared A.Arithmetic.ops arith.old y }
 {
     let mut u = arith.from_exact_mult(y.hi, y.hi);
     u.lo = arith.dd_fmla(2.0 * y.hi, y.lo, u.lo);
@@ -203,7 +203,7 @@ fn reciprocal_square<A: Arithmetic>(arith: &mut A, y: DoubleDouble) -> DoubleDou
 // A row's fast polynomial at u.
 fn fast_polynomial<A: Arithmetic>(arith: &mut A, row: usize, u: DoubleDouble) -> DoubleDouble
     requires { row < 6 }
-    ensures { (arith.new, result) ≡ fast_polynomial ops arith.old row u }
+    ensures { (arith.new, result) ≡ fast_polynomial A.Arithmetic.ops arith.old row u }
 {
     let mut zh = asymptotic_number(row, 12);
     zh = arith.dd_fmla(zh, u.hi, asymptotic_number(row, 11));
@@ -233,7 +233,7 @@ fn fast_error(hi: f64) -> f64
 // erfc(x) = exp(-x^2) * p(1/x) by the fast polynomials.
 fn erfc_asympt_fast<A: Arithmetic>(arith: &mut A, x: f64) -> FastPart
     requires { Argument x 0x4039db1bb14e15ca }
-    ensures value { (arith.new, result) ≡ fast_step ops arith.old x }
+    ensures value { (arith.new, result) ≡ fast_step A.Arithmetic.ops arith.old x }
     ensures row_bound { result.row < 6 }
     ensures k_low { negsuc 3999999 ≤ℤ result.k }
     ensures k_high { result.k ≤ℤ negsuc 48999 }
@@ -259,7 +259,7 @@ fn erfc_asympt_fast<A: Arithmetic>(arith: &mut A, x: f64) -> FastPart
 // A row's accurate polynomial at u.
 fn accurate_polynomial<A: Arithmetic>(arith: &mut A, row: usize, u_dd: DoubleDouble) -> DoubleDouble
     requires { row < 10 }
-    ensures { (arith.new, result) ≡ accurate_polynomial ops arith.old row u_dd }
+    ensures { (arith.new, result) ≡ accurate_polynomial A.Arithmetic.ops arith.old row u_dd }
 {
     let z_dd = DoubleDouble::new(0.0, accurate_number(row, row + 20));
     let w_dd = evaluate(arith, &AccurateUpper { row }, row + 8, u_dd, z_dd);
@@ -284,7 +284,7 @@ fn scaled_value(v: DoubleDouble, k: i32) -> f64
 // erfc(x) by the accurate polynomials: the pair before scaling.
 fn erfc_asympt_accurate<A: Arithmetic>(arith: &mut A, x: f64) -> AccuratePart
     requires { Argument x 0x403b39dc41e48bfd }
-    ensures value { (arith.new, result) ≡ accurate_step ops arith.old x }
+    ensures value { (arith.new, result) ≡ accurate_step A.Arithmetic.ops arith.old x }
     ensures row_bound { result.row < 7 }
     ensures k_low { negsuc 1069 ≤ℤ result.k }
     ensures k_high { result.k ≤ℤ negsuc 11 }
@@ -308,7 +308,7 @@ fn erfc_asympt_accurate<A: Arithmetic>(arith: &mut A, x: f64) -> AccuratePart
 // A tail argument with a fast step.
 fn erfc_fast_tail<A: Arithmetic>(arith: &mut A, x: f64) -> Answer
     requires { Argument x 0x4039db1bb14e15ca }
-    ensures value { (arith.new, result) ≡ with_fast_step ops arith.old x }
+    ensures value { (arith.new, result) ≡ with_fast_step A.Arithmetic.ops arith.old x }
     ensures within { Within result }
 {
     let fast = erfc_asympt_fast(arith, x);
@@ -331,7 +331,7 @@ fn erfc_fast_tail<A: Arithmetic>(arith: &mut A, x: f64) -> Answer
 // A tail argument without a fast step: its pair would be subnormal.
 fn erfc_far_tail<A: Arithmetic>(arith: &mut A, x: f64) -> Answer
     requires { Argument x 0x403b39dc41e48bfd }
-    ensures value { (arith.new, result) ≡ without_fast_step ops arith.old x }
+    ensures value { (arith.new, result) ≡ without_fast_step A.Arithmetic.ops arith.old x }
     ensures within { Within result }
 {
     let accurate = erfc_asympt_accurate(arith, x);
@@ -357,7 +357,7 @@ fn answer_without_step(value: f64, code: Code) -> Answer
 // The answer of an argument of this class.
 fn answer_of<A: Arithmetic>(arith: &mut A, class: Class, bits: u64) -> Result<Answer, Refusal>
     requires { class ≡ class_of bits }
-    ensures value { (arith.new, result) ≡ answer_of ops class arith.old (from_bits binary64 bits) }
+    ensures value { (arith.new, result) ≡ answer_of A.Arithmetic.ops class arith.old (from_bits binary64 bits) }
     ensures within { OutcomeWithin result }
 {
     match class {
@@ -377,7 +377,7 @@ fn answer_of<A: Arithmetic>(arith: &mut A, class: Class, bits: u64) -> Result<An
 
 // Complementary error function of the f64 with these bits: NaN, the flat ends and the tail.
 pub fn f_erfc<A: Arithmetic>(arith: &mut A, bits: u64) -> Result<Answer, Refusal>
-    ensures value { (arith.new, result) ≡ evaluation ops arith.old bits }
+    ensures value { (arith.new, result) ≡ evaluation A.Arithmetic.ops arith.old bits }
     ensures within { OutcomeWithin result }
 {
     answer_of(arith, classify(bits), bits)

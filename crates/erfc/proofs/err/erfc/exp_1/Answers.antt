@@ -1,7 +1,6 @@
-use Rattle.std.proofs.Common.{◌≡◌, T, ℤ, pos, negsuc, ◌≤ℤ◌, sym, ap, ◌∙◌, subst, lit≤, w64, SFits, to_z, of_z, rules}
-use lib.Ieee.{Float, binary64, in_signed}
+use Rattle.std.proofs.Common.{◌≡◌, ℤ, pos, negsuc, ◌≤ℤ◌, sym, ◌∙◌, subst, lit≤, w64, SFits, rules}
 use Rattle.std.proofs.lemmas.Int.{to_z-of_z}
-use Rattle.erfc.specs.Exponentials.{exp1, multiple, multiple_int, floor_div, reduced_indices}
+use Rattle.erfc.specs.Exponentials.{exp1, multiple, floor_div}
 use Rattle.erfc.proofs.Casts.{castable, cast_is, within}
 use Rattle.erfc.proofs.Indices.{exponent_low, exponent_high}
 use Rattle.erfc.proofs.err.erfc.exp_1.Goals as goal

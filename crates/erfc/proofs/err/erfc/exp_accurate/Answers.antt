@@ -1,4 +1,4 @@
-use Rattle.std.proofs.Common.{◌≡◌, negsuc, sym, ap, ◌∙◌, subst, lit≤, w32, rules}
+use Rattle.std.proofs.Common.{◌≡◌, negsuc, ◌∙◌, lit≤, w32, rules}
 use Rattle.std.proofs.lemmas.Int.{to_z-of_z}
 use Rattle.erfc.specs.Exponentials.{accurate_multiple, exp_accurate}
 use Rattle.erfc.proofs.Casts.{castable, cast_is, within}
@@ -13,7 +13,7 @@ pub negated-requires : goal.negated-requires
 negated-requires g c =
     let h = cast_is (accurate_multiple c.args.x_dd.hi) 12 1070 31 c.requires (lit≤ tt) (lit≤ tt) in
     let k : c.as_small_integer-k.result ≡ negsuc c.requires.n = search rules in
-    let e = to_z-of_z w32 c.as_small_integer-k.result (record { sfits = c.as_small_integer-k.type-inv }) ∙ k in
+    let e = to_z-of_z w32 c.as_small_integer-k.result (record { sfits = c.as_small_integer-k.type_inv }) ∙ k in
     within _ c.requires.n 11 1069 e c.requires.least c.requires.most
 
 pub returns : goal.returns
