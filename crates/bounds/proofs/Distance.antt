@@ -1,6 +1,5 @@
 -- From the error of the accurate step's pair to the distance of the answer: less than one unit. Assumes nothing.
 use Rattle.std.proofs.Common.{◌≡◌, ℕ, suc, ◌+◌, ◌-◌, ◌*◌, ◌^◌, ◌<◌, ◌≤◌, ◌⊎◌, ℤ, pos, negsuc, ◌+ℤ◌, ◌-ℤ◌, ◌*ℤ◌, nat_abs, sym, refl, ap, ◌∙◌, subst, inl, inr, le_trans, le_of_eq, lt_of_lt_of_le, le_of_lt, mul-le-mul_right, mul-le-mul_left, mul-pos, one-mul, le_of_mul-le-mul_right, arith, lit≤, pow_pos, pow-add}
-use borrow.Author.Differences.{up}
 use Rattle.ieee.specs.Val.{val}
 use Rattle.ieee.specs.Pairs.{Good}
 use Rattle.ieee.specs.Meaning.{Operand}

@@ -1,5 +1,5 @@
 -- How near the pairs of the polynomials are. Definitions only.
-use Rattle.std.specs.Prelude.{ℕ, zero, suc, ◌+◌, ◌*◌, ◌<◌, List, [], ◌∷◌, from_bits, slice_index, Float}
+use Rattle.std.specs.Prelude.{ℕ, zero, suc, ◌+◌, ◌*◌, List, [], ◌∷◌, from_bits, slice_index, Float}
 use Rattle.std.specs.Float.{binary64}
 use Rattle.double_double.specs.declared.double_double.DoubleDouble.{DoubleDouble}
 use Rattle.ieee.specs.Meaning.{Number}

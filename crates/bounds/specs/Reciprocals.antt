@@ -2,7 +2,7 @@
 use Rattle.std.specs.Prelude.{Float}
 use Rattle.double_double.specs.declared.double_double.DoubleDouble.{DoubleDouble}
 use Rattle.ieee.specs.Meaning.{Number}
-use Rattle.bounds.specs.Num.{◌⊕◌, ◌⊗◌, mag, whole, tiny, Within}
+use Rattle.bounds.specs.Num.{◌⊗◌, whole, tiny, Within}
 use Rattle.bounds.specs.Floats.{exactly}
 use Rattle.bounds.specs.Formulas.{sum_of}
 

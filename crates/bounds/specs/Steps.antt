@@ -1,6 +1,6 @@
 -- What one step of the arithmetic may answer, as relations between numbers. Any implementation that keeps the stated bounds is covered.
 -- Assumes nothing.
-use Rattle.std.specs.Prelude.{ℕ, zero, suc, ◌*◌, ◌≤◌, Bool, true, false, List, [], ◌∷◌}
+use Rattle.std.specs.Prelude.{◌*◌, ◌≤◌, Bool, true, false, List, [], ◌∷◌}
 use Rattle.bounds.specs.Num.{Q, ◌⊕◌, ◌⊗◌, mag, whole, tiny, Same, Within}
 
 pub record Pair : Type 0 where

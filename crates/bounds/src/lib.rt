@@ -1,5 +1,6 @@
 // Theorems on the steps over every arithmetic, each the contract of a function that does nothing.
 #![tactic(auto)]
+
 ghost use Rattle.bounds.specs.Promises.{OfXAlone, RowsAndMultiplesWithin, PositiveArguments, NearReciprocals, NearExponentials, NearAccurateExponentials, NearPolynomials, Brackets, NearestAnswers, AccurateAnswers, TailAnswers};
 
 use double_double::arithmetic::Arithmetic;
