@@ -1,5 +1,6 @@
 // Theorems that the contracts of other crates rest on, each the contract of a function that does nothing.
 #![tactic(auto)]
+
 ghost use Rattle.figures.specs.Figures.{Figures};
 ghost use Rattle.figures.specs.Rounding.{RoundIsNearest};
 

@@ -1,12 +1,12 @@
-use Rattle.std.proofs.Common.{◌≡◌, ◌<◌, sym, ◌∙◌, arith}
+use Rattle.std.proofs.Common.{sym, ◌∙◌, arith}
 use Rattle.replay.proofs.Digits.{next_below, below_60, digit_more, digit_none, digits_all}
 use Rattle.replay.proofs.line.hex.Goals as goal
 
-pub overflow-mul-value : goal.overflow-mul-value
-overflow-mul-value c = let h = below_60 c.loop-b.value c.loop-b.b-index c.loop-b.invariant.0 (omega arith) in omega arith
+pub overflow_mul-value : goal.overflow_mul-value
+overflow_mul-value c = let h = below_60 c.loop-b.value c.loop-b.b-index c.loop-b.invariant.0 (omega arith) in omega arith
 
-pub overflow-add-value : goal.overflow-add-value
-overflow-add-value c = let h = below_60 c.loop-b.value c.loop-b.b-index c.loop-b.invariant.0 (omega arith) in omega (arith, c.in-Some.ensures.bound)
+pub overflow_add-value : goal.overflow_add-value
+overflow_add-value c = let h = below_60 c.loop-b.value c.loop-b.b-index c.loop-b.invariant.0 (omega arith) in omega (arith, c.in-Some.ensures.bound)
 
 pub loop-b-preserved : goal.loop-b-preserved
 loop-b-preserved c = (
