@@ -1,5 +1,6 @@
 // The library for C and Rust: one argument over each arithmetic.
 #![tactic(auto)]
+
 ghost use Rattle.std.specs.Prelude.{◌≡◌};
 ghost use Rattle.double_double.specs.declared.fused.Fused.{Fused as FusedState};
 ghost use Rattle.double_double.specs.declared.plain.Plain.{Plain as PlainState};

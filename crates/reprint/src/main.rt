@@ -1,5 +1,6 @@
 // Replays answers of the Rust: lines `argument,plain,fused` on standard input, differences and counts on standard output.
 #![tactic(auto)]
+
 use anyhow::anyhow;
 use double_double::arithmetic::Arithmetic;
 use double_double::fused::Fused;
