@@ -25,7 +25,7 @@ module _ {S : Type 0} (o : Ops S) (m : Meaning o) where
       let w = of_x_alone o m in
       let n = big_multiple x a in
       record {
-        row = w.big_row s x a;
+        row = w.accurate_row s x a;
         k = w.big_k s x a;
         pair = record { low = record { holds = r.low.holds; number = r.low.number }; high = record { holds = r.high.holds; number = r.high.number }; near = r.near; low_small = r.low_small };
         answer = at_multiple x p f.row f.k f.pair n.0 (w.big_k s x a ∙ n.1.0) (omega (arith, n.1.1.1)) r;

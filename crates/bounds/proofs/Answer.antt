@@ -1,4 +1,4 @@
--- The scaled answer: what `scaledValue` gives of a pair of f64, in units. Assumes nothing.
+-- The scaled answer: what `scaled_value` gives of a pair of f64, in units. Assumes nothing.
 use Rattle.std.proofs.Common.{◌≡◌, ℕ, suc, ◌*◌, ◌^◌, ◌<◌, ◌≤◌, Bool, true, false, cond, T, ℤ, pos, negsuc, ◌+ℤ◌, ◌-ℤ◌, ◌*ℤ◌, nat_abs, sym, refl, ap, ◌∙◌, subst, inl, inr, true≢false, le_trans, lt_of_le_of_lt, le_of_lt, mul-le-mul, mul-one, arith, lit<, lit≤, pow_pos, pow_mono}
 use lib.Ieee.{Float, binary64, of_bits, add, sub, lt}
 use lib.Ieee.Bits.{of_bits-fits}

@@ -28,7 +28,7 @@ unfolding reciprocal fast_step accurate_step
 of_x_alone o m = record {
   row = λ s x a. refl;
   k = λ s x a. ap multiple_int (square_is o m s (o.product s x x).0 (o.product s x x).1 _ x fast_end a (lit≤ tt) refl refl);
-  big_row = λ s x a. refl;
+  accurate_row = λ s x a. refl;
   big_k = λ s x a. ap accurate_multiple_int (square_is o m s (o.product s x x).0 (o.product s x x).1 _ x tail_end a (lit≤ tt) refl refl);
 }
 

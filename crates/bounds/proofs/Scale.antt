@@ -59,7 +59,7 @@ module _ (G : ℕ) (G>0 : zero < G) where
   pub sum_least : {a b : Q} {k n : ℕ} → Least G a (k + n) → N.Abs G G>0 b n → Least G (a ⊕ b) k
   sum_least {a} {b} {k} {n} h i = record { le = sum_least₀ a.up a.dn a.den b.up b.dn b.den G k n (mul-le-mul_right b.den h.le) (mul-le-mul_right a.den i.ge) }
 
-  -- an error in units, turned into a bound that is a number; `within-near` is the way back
+  -- an error in units, turned into a bound that is a number; `within_near` is the way back
   pub near_within : {a b r : Q} {e : ℕ} → N.Near G G>0 a b e → Least G r e → Within a b r
   near_within {a} {b} {r} {e} h i = record {
     le = le_of_mul-le-mul_right (within₀ _ _ (a.den * b.den) r.up r.dn r.den G e (mul-le-mul_right r.den h.le) (mul-le-mul_right (a.den * b.den) i.le)) G>0;

@@ -33,7 +33,7 @@ listed_bits = 0x403a8f7bfbd15495
 pub record OfXAlone {S : Type 0} (o : Ops S) : Type 0 where
   pub row : (s : S) (x : Float) → Argument x fast_end → (fast_step o s x).1.row ≡ fast_row (div binary64 one x)
   pub k : (s : S) (x : Float) → Argument x fast_end → (fast_step o s x).1.k ≡ multiple_int (neg (mul binary64 x x))
-  pub big_row : (s : S) (x : Float) → Argument x tail_end → (accurate_step o s x).1.row ≡ accurate_row (div binary64 one x)
+  pub accurate_row : (s : S) (x : Float) → Argument x tail_end → (accurate_step o s x).1.row ≡ accurate_row (div binary64 one x)
   pub big_k : (s : S) (x : Float) → Argument x tail_end → (accurate_step o s x).1.k ≡ accurate_multiple_int (neg (mul binary64 x x))
 
 -- what values row, k and K have

@@ -1,2 +1,2 @@
 pub mod Alternating
-pub mod AlternatingArithmeticLemmas
+pub mod AlternatingMeaning

@@ -1,11 +1,7 @@
 // A third arithmetic, with a state: it answers as plain and as fused in turn, and counts its calls.
-ghost use Rattle.std.specs.Prelude.{◌≡◌, Float};
+ghost use Rattle.std.specs.Prelude.{◌≡◌};
 ghost use Rattle.checks.specs.Alternating.{passed, alternating_ops};
-ghost use Rattle.ieee.specs.Meaning.{ProductMeans, PairsMean, NumberMeans, MaddMeans};
-ghost use Rattle.double_double.specs.declared.double_double.DoubleDouble.{DoubleDouble};
-ghost use Rattle.double_double.specs.Meanings.{plain_meaning, fused_meaning};
-ghost use Rattle.checks.specs.AlternatingArithmeticLemmas.{either};
-ghost use Rattle.checks.specs.AlternatingArithmeticLemmas;
+ghost use Rattle.checks.specs.AlternatingMeaning.{alternating_meaning};
 
 use double_double::arithmetic::Arithmetic;
 use double_double::double_double::DoubleDouble;
@@ -39,12 +35,7 @@ impl Arithmetic for Alternating {
 
     ghost ops = { alternating_ops };
 
-    ghost meaning = { record {
-      product = λ s a b p q. either (λ (r : DoubleDouble). ProductMeans a b r.lo r.hi) s.fused _ _ (fused_meaning.product AlternatingArithmeticLemmas.fused a b p q) (plain_meaning.product AlternatingArithmeticLemmas.plain a b p q);
-      pair_times_pair = λ s a b p q u v. either (λ (r : DoubleDouble). PairsMean a.lo a.hi b.lo b.hi r.lo r.hi) s.fused _ _ (fused_meaning.pair_times_pair AlternatingArithmeticLemmas.fused a b p q u v) (plain_meaning.pair_times_pair AlternatingArithmeticLemmas.plain a b p q u v);
-      pair_times_number = λ s a b p q u. either (λ (r : DoubleDouble). NumberMeans a.lo a.hi b r.lo r.hi) s.fused _ _ (fused_meaning.pair_times_number AlternatingArithmeticLemmas.fused a b p q u) (plain_meaning.pair_times_number AlternatingArithmeticLemmas.plain a b p q u);
-      multiply_add = λ s a b c p q u. either (λ (r : Float). MaddMeans a b c r) s.fused _ _ (fused_meaning.multiply_add AlternatingArithmeticLemmas.fused a b c p q u) (plain_meaning.multiply_add AlternatingArithmeticLemmas.plain a b c p q u);
-    } };
+    ghost meaning = { alternating_meaning };
 
     fn comparison_end() -> u64 {
         Self::COMPARED_BELOW

@@ -132,7 +132,7 @@ module _ (d : Float) (s : Bool) (q k : ℕ) (small : q < 2 ^ 53) (fine : q * 2 ^
       go : Second → mul binary64 y (power (negsuc 1021)) ≡ goal b
       go c = last_step c 1021 (omega arith) ∙ rounded_zero s (c.w * 1) (2 ^ 1022) (pow_pos 1022) (tiny c.w (2 ^ 1022) (within c) (lit≤ tt)) ∙ sym (goal_cut b h)
 
-  -- ---- what scaledDown makes of i + 970, and of i + 970 + 970 after a second step
+  -- ---- what scaled_down makes of i + 970, and of i + 970 + 970 after a second step
   abbrev last : ℤ → Float
   last m = cond (lt_z m (negsuc 1021)) (mul binary64 y (power (negsuc 1021))) (mul binary64 y (power m))
 

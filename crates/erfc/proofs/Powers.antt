@@ -1,4 +1,4 @@
--- The powers of two that ldexpOf multiplies by: their values. Assumes nothing.
+-- The powers of two that ldexp_of multiplies by: their values. Assumes nothing.
 use Rattle.std.proofs.Common.{◌≡◌, ℕ, zero, suc, ◌+◌, ◌-◌, ◌*◌, ◌%◌, ◌^◌, ◌<◌, ◌≤◌, Bool, false, cond, pos, negsuc, nat_abs, sym, refl, ap, ◌∙◌, subst, mul_comm, one-mul, mul-one, arith, pow_pos, pow-add, shl_exact, le-ltb}
 use native.Mathlib.Nat.{mul-mod_left, pow-succ'}
 use lib.Bits.{or_zero_r}

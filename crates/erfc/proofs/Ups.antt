@@ -60,7 +60,7 @@ module _ (d : Float) (s : Bool) (q k : ℕ) (small : q < 2 ^ 53) (v : HasValue d
   most : (b : ℕ) → 1023 < b → mul binary64 y (power (pos 1023)) ≡ rounded s (q * 2 ^ (k + (b + 1023 + 1023))) 1
   most b h = next y (power (pos 1023)) (k + 1023 + 1023) 1023 y_is (power_up 1023 (omega arith)) ∙ cut (k + 1023 + 1023 + 1023) (k + (b + 1023 + 1023)) (omega arith) (omega arith)
 
-  -- what scaledUp makes of i - 1023, and of i - 1023 - 1023 after a second step
+  -- what scaled_up makes of i - 1023, and of i - 1023 - 1023 after a second step
   abbrev last : ℤ → Float
   last m = cond (lt_z (pos 1023) m) (mul binary64 y (power (pos 1023))) (mul binary64 y (power m))
 

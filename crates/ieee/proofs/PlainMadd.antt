@@ -16,7 +16,7 @@ use Rattle.ieee.proofs.Floats.{rounding, good_up, good_add, full_add}
 use Rattle.ieee.proofs.MulAdd.{mul_add_exact}
 use Rattle.ieee.proofs.PlainNumber.{frac_error, sum_error, times_good}
 
--- ---- the bound of `mul-add-bound` with three units in place of sixteen: p is a b, h + w the product pair; all in units of 2 ^ -2148
+-- ---- the bound of `mul_add_bound` with three units in place of sixteen: p is a b, h + w the product pair; all in units of 2 ^ -2148
 sharp_sum : (p h w c t u m s : ℤ) (l : ℕ) → h +ℤ c ≡ t +ℤ u
     → nat_abs (h +ℤ w -ℤ p) ≤ 2 * l → 2 ^ 53 * nat_abs (h -ℤ p) ≤ nat_abs p + 2 ^ 52 * l → 2 ^ 53 * nat_abs (t -ℤ (h +ℤ c)) ≤ nat_abs (h +ℤ c) → 2 ^ 53 * nat_abs (m -ℤ (w +ℤ u)) ≤ nat_abs (w +ℤ u) → 2 ^ 53 * nat_abs (s -ℤ (m +ℤ t)) ≤ nat_abs (m +ℤ t)
     → 2 ^ 103 * nat_abs (s -ℤ (p +ℤ c)) ≤ 2 ^ 50 * nat_abs (p +ℤ c) + (nat_abs p + nat_abs c) + 3 * 2 ^ 103 * l

@@ -24,7 +24,7 @@ abs_sub a b = omega zs
 pub abs_back : (a b : ℤ) → nat_abs a ≤ nat_abs (a -ℤ b) + nat_abs b
 abs_back a b = omega zs
 
--- ---- bounds by the triangle inequality: `abs-add` is a lemma at an atom, so `omega` takes it at each |a + b| in sight, and `abs_neg` at each |- a|
+-- ---- bounds by the triangle inequality: `abs_add` is a lemma at an atom, so `omega` takes it at each |a + b| in sight, and `abs_neg` at each |- a|
 pub abs_neg : (a : ℤ) → nat_abs (neg_ℤ a) ≡ nat_abs a
 abs_neg (pos zero) = refl
 abs_neg (pos (suc n)) = refl

@@ -41,9 +41,9 @@ pub fast_row : (row n b : ℕ) → row < 6 → n < 13 → b ≡ get_or (get_or f
 unfolding nan_bits
 fast_row row n b = in_rows fast_rows 6 13 row n b tt
 
-pub big_row : (row n b : ℕ) → row < 10 → n < 30 → b ≡ get_or (get_or accurate_rows row []) n 0 → T (number b)
+pub accurate_row : (row n b : ℕ) → row < 10 → n < 30 → b ≡ get_or (get_or accurate_rows row []) n 0 → T (number b)
 unfolding nan_bits
-big_row row n b = in_rows accurate_rows 10 30 row n b tt
+accurate_row row n b = in_rows accurate_rows 10 30 row n b tt
 
 pub exp_entry : (n b : ℕ) → n < 28 → b ≡ get_or exp_numbers n 0 → T (number b)
 unfolding nan_bits
