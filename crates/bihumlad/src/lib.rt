@@ -1,4 +1,4 @@
-// The library for C and Rust: one argument over each arithmetic. A crate that is built for Rust exports nothing to C, so bihumlad_c exports these functions, under the same names.
+// One argument over each arithmetic, as a value and a code. This is the library for Rust; it exports nothing to C, and bihumlad_c does, under the same names.
 #![tactic(auto)]
 
 ghost use Rattle.std.specs.Prelude.{◌≡◌};
