@@ -1,7 +1,5 @@
 // pxfm's src/double_double.rs: what needs no product.
 ghost use Rattle.std.specs.Prelude.{◌≡◌};
-ghost use Rattle.std.specs.Float.Ieee as Ieee;
-ghost use Rattle.std.specs.Float.{binary64};
 ghost use Rattle.ieee.specs.Pairs.{Small, SumOf, Leads};
 ghost use Rattle.double_double.specs.Pairs.{bit_pair, fast_two_sum, two_sum, veltkamp, dekker_from, number_plus_pair, pair_plus_number, rounded_sum, negated};
 

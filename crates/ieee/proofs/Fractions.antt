@@ -105,8 +105,8 @@ rq_error (negsuc n) d D = go (rnd (suc n) d) (error (suc n) d D)
 -- a bound of 53 digits is kept
 pub bounded : (x s : ℤ) (b : ℕ) → Rounds x s → Repr (pos b) → Le x b → Le s b
 bounded x s b r w h =
-    let up-b = nearest x s (pos b) r w (b + less x - plus x) (omega arith, omega arith) in
-    let low-b = nearest x s (neg_ℤ (pos b)) r (Rattle.ieee.proofs.Sums.repr_neg (pos b) w) (b + plus x - less x) (omega zs, omega zs) in
+    let up_b = nearest x s (pos b) r w (b + less x - plus x) (omega arith, omega arith) in
+    let low_b = nearest x s (neg_ℤ (pos b)) r (Rattle.ieee.proofs.Sums.repr_neg (pos b) w) (b + plus x - less x) (omega zs, omega zs) in
     (omega arith, omega arith)
 
 -- ---- a whole number: 2 ^ -53 of it, and no more

@@ -95,7 +95,7 @@ module _ (p r hh hl lh ll : ℤ) (w : ℕ) (R : Rounds p r)
 
   pub off : Near r p (2 ^ 53 * 2 ^ w)
   off = let above = R.above in let below = R.below in
-      let k-le : 2 ^ R.k ≤ 2 ^ 54 * 2 ^ w = elim R.lo [ inl e ↦ absurd (omega (arith, k_ge)) | inr (inl l) ↦ omega (arith, top) | inr (inr l) ↦ omega (arith, top) ] in
+      let k_le : 2 ^ R.k ≤ 2 ^ 54 * 2 ^ w = elim R.lo [ inl e ↦ absurd (omega (arith, k_ge)) | inr (inl l) ↦ omega (arith, top) | inr (inr l) ↦ omega (arith, top) ] in
       (omega arith, omega arith)
 
   mr : Mult (52 + w) r

@@ -68,9 +68,9 @@ module _ (a t1 : ℤ) (j : ℕ) (n : Normal a j) (r1 : Rounds (pos (2 ^ 27 + 1) 
       let above = r1.above in
       let below = r1.below in
       let k_ge : 27 + j ≤ r1.k = at_least r1.k j (elim s.1 [ inl l ↦ omega (zs, hi) | inr l ↦ omega (zs, hi) ]) in
-      let k-le : r1.k ≤ 28 + j = at_most r1.k j (elim r1.lo [ inl l ↦ absurd (omega arith) | inr (inl l) ↦ omega (zs, s.0) | inr (inr l) ↦ omega (zs, s.0) ]) in
-      let k-le' : 2 ^ r1.k ≤ 2 ^ 28 * p = up_to r1.k 28 j k-le in
-      (k_ge, k-le, (omega arith, omega arith))
+      let k_le : r1.k ≤ 28 + j = at_most r1.k j (elim r1.lo [ inl l ↦ absurd (omega arith) | inr (inl l) ↦ omega (zs, s.0) | inr (inr l) ↦ omega (zs, s.0) ]) in
+      let k_le' : 2 ^ r1.k ≤ 2 ^ 28 * p = up_to r1.k 28 j k_le in
+      (k_ge, k_le, (omega arith, omega arith))
 
   -- a - t1 is 2 ^ 27 a, within the bounds that 2 ^ 27 a has
   abbrev Second : Type 0

@@ -1,5 +1,5 @@
 // A line `argument,plain,fused`: three times 16 lowercase hex digits, parted by commas, ended by byte 0a.
-ghost use Rattle.std.specs.Prelude.{◌≡◌, ◌+◌, ◌*◌, ◌^◌, ◌<◌, ◌≤◌, true, length};
+ghost use Rattle.std.specs.Prelude.{◌≡◌, ◌+◌, ◌*◌, ◌<◌, ◌≤◌, true, length};
 ghost use Rattle.replay.specs.Lines.{digit_of, hex_from, OnSome, framed, line_of};
 
 // The bytes of a line.

@@ -1,5 +1,5 @@
 // pxfm's src/err/erfc.rs, over any arithmetic.
-ghost use Rattle.std.specs.Prelude.{◌≡◌, ◌<◌, T, negsuc, neg_ℤ, ◌≤ℤ◌, ◌<ℤ◌, from_bits};
+ghost use Rattle.std.specs.Prelude.{◌≡◌, ◌<◌, T, negsuc, neg_ℤ, ◌≤ℤ◌, from_bits};
 ghost use Rattle.std.specs.Float.{binary64};
 ghost use Rattle.std.specs.Float.Ieee.{in_signed, of_int, to_signed};
 ghost use Rattle.ieee.specs.Whole.{Whole};
@@ -122,7 +122,8 @@ fn as_small_integer(k: f64) -> i32
 
 // -k as a number.
 fn negated(k: i32) -> f64
-    requires { (negsuc 1069 ≤ℤ k) × (k ≤ℤ negsuc 11) }
+    requires k_low { negsuc 1069 ≤ℤ k }
+    requires k_high { k ≤ℤ negsuc 11 }
     ensures { result ≡ of_int binary64 (neg_ℤ k) }
 {
     -k as f64
@@ -268,7 +269,8 @@ fn accurate_polynomial<A: Arithmetic>(arith: &mut A, row: usize, u_dd: DoubleDou
 
 // v * 2^k as one number.
 fn scaled_value(v: DoubleDouble, k: i32) -> f64
-    requires { (negsuc 1069 ≤ℤ k) × (k ≤ℤ negsuc 11) }
+    requires k_low { negsuc 1069 ≤ℤ k }
+    requires k_high { k ≤ℤ negsuc 11 }
     ensures { result ≡ scaled_value v k }
 {
     let res = ldexp_steps(v.to_f64(), k);

@@ -15,7 +15,8 @@ const EXP_BIAS: u64 = 1023;
 
 // 2^n, for the exponent of a normal number.
 pub fn power_of_two(n: i64) -> f64
-    requires { (negsuc 1021 ≤ℤ n) × (n ≤ℤ pos 1023) }
+    requires n_low { negsuc 1021 ≤ℤ n }
+    requires n_high { n ≤ℤ pos 1023 }
     ensures { result ≡ power n }
 {
     f64_from_parts(DyadicSign::Pos, (EXP_BIAS as i64 + n) as u64, 0)
@@ -23,7 +24,8 @@ pub fn power_of_two(n: i64) -> f64
 
 // x * 2^n.
 fn times_power(x: f64, n: i32) -> f64
-    requires { (negsuc 1021 ≤ℤ n) × (n ≤ℤ pos 1023) }
+    requires n_low { negsuc 1021 ≤ℤ n }
+    requires n_high { n ≤ℤ pos 1023 }
     ensures { result ≡ mul binary64 x (power n) }
 {
     x * power_of_two(i64::from(n))

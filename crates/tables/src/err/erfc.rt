@@ -503,7 +503,8 @@ pub static E2: [u64; 28] = [
 ];
 
 fn asymptotic_poly_bits(row: usize, n: usize) -> u64
-    requires { (row < 6) × (n < 13) }
+    requires row_in { row < 6 }
+    requires n_in { n < 13 }
     ensures { result ≡ get_or (get_or fast_rows row []) n 0 }
 {
     ASYMPTOTIC_POLY[row].p[n]
@@ -511,7 +512,8 @@ fn asymptotic_poly_bits(row: usize, n: usize) -> u64
 
 // Number n of a row of the fast polynomial.
 pub fn asymptotic_number(row: usize, n: usize) -> f64
-    requires { (row < 6) × (n < 13) }
+    requires row_in { row < 6 }
+    requires n_in { n < 13 }
     ensures { result ≡ fast_number row n }
 {
     f64::from_bits(asymptotic_poly_bits(row, n))
@@ -526,7 +528,8 @@ pub fn asymptotic_turns(row: usize) -> usize
 }
 
 fn asymptotic_poly_accurate_bits(row: usize, n: usize) -> u64
-    requires { (row < 10) × (n < 30) }
+    requires row_in { row < 10 }
+    requires n_in { n < 30 }
     ensures { result ≡ get_or (get_or accurate_rows row []) n 0 }
 {
     ASYMPTOTIC_POLY_ACCURATE[row].p[n]
@@ -534,7 +537,8 @@ fn asymptotic_poly_accurate_bits(row: usize, n: usize) -> u64
 
 // Number n of a row of the accurate polynomial.
 pub fn accurate_number(row: usize, n: usize) -> f64
-    requires { (row < 10) × (n < 30) }
+    requires row_in { row < 10 }
+    requires n_in { n < 30 }
     ensures { result ≡ accurate_number row n }
 {
     f64::from_bits(asymptotic_poly_accurate_bits(row, n))

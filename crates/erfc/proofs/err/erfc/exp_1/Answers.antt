@@ -18,7 +18,8 @@ power_of_two-scale-requires g c =
     let m : c.reduced_indices-m.result.0 ≡ floor_div c.as_integer-ki.result 4096 = search rules in
     let e = to_z-of_z w64 c.reduced_indices-m.result.0 f ∙ m in
     let between : ℤ → Type 0 = λ z. (negsuc 1021 ≤ℤ z) × (z ≤ℤ pos 1023) in
-    subst between (sym e) (exponent_low _ c.requires.n k c.requires.most, exponent_high _ c.requires.n k)
+    let b = subst between (sym e) (exponent_low _ c.requires.n k c.requires.most, exponent_high _ c.requires.n k) in
+    record { n_low = b.0; n_high = b.1 }
 
 pub returns : goal.returns
 unfolding exp1

@@ -14,7 +14,8 @@ negated-requires g c =
     let h = cast_is (accurate_multiple c.args.x_dd.hi) 12 1070 31 c.requires (lit≤ tt) (lit≤ tt) in
     let k : c.as_small_integer-k.result ≡ negsuc c.requires.n = search rules in
     let e = to_z-of_z w32 c.as_small_integer-k.result (record { sfits = c.as_small_integer-k.type_inv }) ∙ k in
-    within _ c.requires.n 11 1069 e c.requires.least c.requires.most
+    let b = within _ c.requires.n 11 1069 e c.requires.least c.requires.most in
+    record { k_low = b.0; k_high = b.1 }
 
 pub returns : goal.returns
 unfolding exp_accurate
