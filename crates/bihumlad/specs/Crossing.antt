@@ -10,3 +10,7 @@ use Rattle.bihumlad.specs.declared.Evaluated.{Evaluated}
 abbrev pub crossing : Result Answer Refusal → Evaluated
 crossing (Ok a) = record { value = a.value; code = code_number a.code }
 crossing (Err r) = record { value = from_bits binary64 0x7ff8000000000000; code = 6 + refusal_number r }
+
+-- beside the state that is left
+abbrev pub crossed : {S : Type 0} → S × Result Answer Refusal → S × Evaluated
+crossed r = (r.0, crossing r.1)

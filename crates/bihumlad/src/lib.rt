@@ -1,16 +1,11 @@
-// One argument over each arithmetic, as a value and a code. This is the library for Rust; it exports nothing to C, and bihumlad_c does, under the same names.
+// One argument over an arithmetic, as a value and a code. This is the library for Rust; bihumlad_c exports plain and fused to C.
 #![tactic(auto)]
 
 ghost use Rattle.std.specs.Prelude.{◌≡◌};
-ghost use Rattle.double_double.specs.declared.fused.Fused.{Fused as FusedState};
-ghost use Rattle.double_double.specs.declared.plain.Plain.{Plain as PlainState};
-ghost use Rattle.double_double.specs.Fused.{fused_ops};
-ghost use Rattle.double_double.specs.Plain.{plain_ops};
 ghost use Rattle.erfc.specs.Answers.{evaluation};
-ghost use Rattle.bihumlad.specs.Crossing.{crossing};
+ghost use Rattle.bihumlad.specs.Crossing.{crossing, crossed};
 
-use double_double::fused::Fused;
-use double_double::plain::Plain;
+use double_double::arithmetic::Arithmetic;
 use erfc::answer::{Answer, Refusal};
 use erfc::err::erfc::f_erfc;
 
@@ -22,31 +17,26 @@ pub struct Evaluated {
     pub code: u8,
 }
 
-fn as_numbers(outcome: Result<Answer, Refusal>) -> Evaluated
-    ensures { result ≡ crossing outcome }
-{
-    match outcome {
-        Ok(answer) => Evaluated {
-            value: answer.value,
-            code: answer.code.number(),
-        },
-        Err(refusal) => Evaluated {
-            value: f64::NAN,
-            code: 6 + refusal.number(),
-        },
+impl From<Result<Answer, Refusal>> for Evaluated {
+    ghost from_gives = { λ outcome r. r ≡ crossing outcome };
+
+    fn from(outcome: Result<Answer, Refusal>) -> Self {
+        match outcome {
+            Ok(answer) => Evaluated {
+                value: answer.value,
+                code: u8::from(answer.code),
+            },
+            Err(refusal) => Evaluated {
+                value: f64::NAN,
+                code: 6 + u8::from(refusal),
+            },
+        }
     }
 }
 
-#[unsafe(no_mangle)]
-pub extern "C" fn bihumlad_erfc_plain(bits: u64) -> Evaluated
-    ensures { (s : PlainState) → result ≡ crossing (evaluation plain_ops s bits).1 }
+// f_erfc of the f64 with these bits.
+pub fn evaluate<A: Arithmetic>(arith: &mut A, bits: u64) -> Evaluated
+    ensures { (arith.new, result) ≡ crossed (evaluation A.Arithmetic.ops arith.old bits) }
 {
-    as_numbers(f_erfc(&mut Plain, bits))
-}
-
-#[unsafe(no_mangle)]
-pub extern "C" fn bihumlad_erfc_fused(bits: u64) -> Evaluated
-    ensures { (s : FusedState) → result ≡ crossing (evaluation fused_ops s bits).1 }
-{
-    as_numbers(f_erfc(&mut Fused, bits))
+    Evaluated::from(f_erfc(arith, bits))
 }

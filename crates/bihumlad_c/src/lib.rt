@@ -9,18 +9,20 @@ ghost use Rattle.double_double.specs.declared.plain.Plain.{Plain as PlainState};
 ghost use Rattle.erfc.specs.Answers.{evaluation};
 ghost use Rattle.bihumlad.specs.Crossing.{crossing};
 
-use bihumlad::Evaluated;
+use bihumlad::{Evaluated, evaluate};
+use double_double::fused::Fused;
+use double_double::plain::Plain;
 
 #[unsafe(no_mangle)]
 pub extern "C" fn bihumlad_erfc_plain(bits: u64) -> Evaluated
     ensures { (s : PlainState) → result ≡ crossing (evaluation plain_ops s bits).1 }
 {
-    bihumlad::bihumlad_erfc_plain(bits)
+    evaluate(&mut Plain, bits)
 }
 
 #[unsafe(no_mangle)]
 pub extern "C" fn bihumlad_erfc_fused(bits: u64) -> Evaluated
     ensures { (s : FusedState) → result ≡ crossing (evaluation fused_ops s bits).1 }
 {
-    bihumlad::bihumlad_erfc_fused(bits)
+    evaluate(&mut Fused, bits)
 }

@@ -9,13 +9,14 @@ use Rattle.erfc.specs.Asymptotics.{scaled_value, accurate_step}
 use Rattle.bounds.specs.Floats.{above}
 use Rattle.bounds.specs.AccurateFormulas.{unscaled_formula, accurate_formula, LessThanUnit, Measured}
 use Rattle.bounds.proofs.RowAndK.{big_multiple, of_x_alone}
+use Rattle.bounds.proofs.AtScale.{number_of}
 use Rattle.bounds.proofs.AccurateAll.{AccurateResult, accurate_result}
 use Rattle.bounds.proofs.Distance.{less_than_unit}
 
 -- with K in sight
 at_multiple : (x : Float) (p : 0 < above (val x)) (row : ℕ) (k : ℤ) (v : DoubleDouble) (n : ℕ) → k ≡ negsuc n → n ≤ 1069 → AccurateResult x p row k v → LessThanUnit (scaled_value v k) (accurate_formula x p row k)
 at_multiple x p row k v n e h = subst (λ (z : ℤ). AccurateResult x p row z v → LessThanUnit (scaled_value v z) (accurate_formula x p row z)) (sym e)
-    (λ r. less_than_unit v n (unscaled_formula x p row (negsuc n)) r.low r.high r.least r.most r.near r.low_small h)
+    (λ r. less_than_unit v n (unscaled_formula x p row (negsuc n)) r.pair r.least r.most h)
 
 module _ {S : Type 0} (o : Ops S) (m : Meaning o) where
   pub accurate_measured : (s : S) (x : Float) (p : 0 < above (val x)) → Argument x tail_end → Measured x p (accurate_step o s x).1
@@ -27,6 +28,6 @@ module _ {S : Type 0} (o : Ops S) (m : Meaning o) where
       record {
         row = w.accurate_row s x a;
         k = w.big_k s x a;
-        pair = record { low = record { holds = r.low.holds; number = r.low.number }; high = record { holds = r.high.holds; number = r.high.number }; near = r.near; low_small = r.low_small };
+        pair = record { low = number_of r.pair.operands.lo; high = number_of r.pair.operands.hi; near = r.pair.near; low_small = r.pair.low_small };
         answer = at_multiple x p f.row f.k f.pair n.0 (w.big_k s x a ∙ n.1.0) (omega (arith, n.1.1.1)) r;
       }

@@ -1,20 +1,19 @@
 -- What is left of -x² after K multiples of log 2, in the accurate exponential: the pair is within 2 ^ -93 of the exact residue, and small. Assumes nothing.
-use Rattle.std.proofs.Common.{◌≡◌, ℕ, suc, ◌+◌, ◌*◌, ◌^◌, ◌≤◌, ℤ, pos, negsuc, ◌+ℤ◌, ◌*ℤ◌, neg_ℤ, nat_abs, sym, refl, ap, ◌∙◌, subst, inr, le_trans, le_of_eq, lt_of_le_of_lt, le_of_lt, mul-le-mul_right, mul-le-mul, le_of_mul-le-mul_right, arith, lit<, lit≤, pow_pos, pow_mono}
-use lib.Ieee.{Float, binary64, of_bits, of_int, add, mul, neg}
-use lib.Ieee.Fits.{of_int-fits, neg-fits, add-fits, sub-fits}
+use Rattle.std.proofs.Common.{◌≡◌, ℕ, suc, ◌+◌, ◌*◌, ◌^◌, ◌≤◌, ℤ, pos, negsuc, ◌+ℤ◌, ◌*ℤ◌, neg_ℤ, nat_abs, sym, refl, ap, ◌∙◌, subst, inr, le_trans, le_of_eq, lt_of_le_of_lt, mul-le-mul, arith, lit<, lit≤, pow_pos}
+use Rattle.std.proofs.Math.IntN.{+ℤ_comm}
 use Rattle.std.specs.Float.{round_ties_even}
+use lib.Ieee.{Float, binary64, of_bits, of_int, add, mul, neg}
+use lib.Ieee.Fits.{add-fits, sub-fits}
 use Rattle.ieee.specs.Val.{val, Mult}
-use Rattle.ieee.specs.Pairs.{Good, Leads, SumOf, last}
+use Rattle.ieee.specs.Pairs.{Good, Leads, SumOf}
 use Rattle.ieee.specs.Whole.{Whole}
 use Rattle.ieee.specs.Meaning.{Number, Operand, ProductMeans, MaddMeans, IsF64, fine}
 use Rattle.ieee.proofs.Ints.{abs_le, abs_mul, massoc, mcomm, dist}
-use Rattle.ieee.proofs.Whole.{mult_add, mult_down}
+use Rattle.ieee.proofs.Whole.{mult_add}
 use Rattle.ieee.proofs.Sums.{repr_of}
 use Rattle.ieee.proofs.Split.{mult_scale}
 use Rattle.ieee.proofs.Floats.{good_add, quick_add, full_add}
-use Rattle.ieee.proofs.Bridge.{finite_neg}
 use Rattle.ieee.proofs.Middle.{to_f64}
-use Rattle.double_double.specs.declared.double_double.DoubleDouble.{DoubleDouble}
 use Rattle.double_double.specs.Pairs.{negated, two_sum, fast_two_sum}
 use Rattle.double_double.specs.Ops.{Ops, Meaning}
 use Rattle.erfc.specs.Rows.{Argument, tail_end}
@@ -23,24 +22,22 @@ use Rattle.erfc.proofs.Tail.{operand, square_is, accurate_whole}
 use Rattle.erfc.proofs.Casts.{cast_is}
 use Rattle.bounds.specs.Num.{Q, ◌⊕◌, ◌⊗◌, whole, Same}
 use Rattle.bounds.specs.Steps.{ExactAdd}
-use Rattle.bounds.specs.Floats.{pair_of, single}
-use Rattle.bounds.specs.Floats.{units, exactly, minus}
+use Rattle.bounds.specs.Floats.{pair_of, units, exactly, minus}
 use Rattle.bounds.specs.Formulas.{integer}
 use Rattle.bounds.specs.AccurateFormulas.{log2, accurate_residue}
-use Rattle.bounds.proofs.Near as N
+use Rattle.bounds.proofs.Near.{abs_add, abs_near, near_add, near_refl, near_same, near_sym}
+use Rattle.bounds.proofs.Computed.{product_size, size_of}
 use Rattle.bounds.proofs.Relative as R
-use Rattle.bounds.proofs.Scale.{Least, near_least, in_units, minus_least, whole_size, whole_least}
+use Rattle.bounds.proofs.Scale.{Least, near_least, whole_size, whole_least}
 use Rattle.bounds.proofs.Over.{Over, over_units, over_add, over_mul, same_over}
-use Rattle.bounds.proofs.Chain.{G, G>0, Near, Abs, Parts, near_to, abs_to, ◌then◌, plus, one_plus, sym_near, same_near, itself, moved, sum_size, product_size, size_of, product_near, product_grouped, by_one, kept, no_size, spread, swap, grouped, rounded_near, times_near, fma_near, exact_near, exact_low, exact_high, value_size, pair_near}
-use Rattle.bounds.proofs.Sizes.{known, from_units, sized_good, sized_operand, product_good}
-use Rattle.bounds.proofs.FromMeaning.{swapped, product_means, product_rounds, madd_means, sum_means, exact_sum}
-use Rattle.bounds.proofs.ExpProduct.{least_product, least_to}
-use Rattle.bounds.proofs.ExpWhole.{whole_half, neg_same, near_minus, difference_size, minus_product}
-use Rattle.bounds.proofs.ExpArg.{negated_high, negated_low}
-use Rattle.bounds.proofs.WholeReciprocal.{tail_value}
+use Rattle.bounds.proofs.Chain.{G, Near, Abs, near_to, abs_to, least_to, least_product, ◌then◌, one_plus, spread, swap, grouped, rounded_near, times_near, fma_near, exact_near, exact_low, exact_high}
+use Rattle.bounds.proofs.Sizes.{known, units_below, sized_good, sized_operand, product_good}
+use Rattle.bounds.proofs.FromMeaning.{product_rounds, madd_means, sum_means, exact_sum}
+use Rattle.bounds.proofs.ExpWhole.{neg_number, near_minus, difference_size, minus_product}
+use Rattle.bounds.proofs.ExpArg.{multiple_near, argument_size, negated_near, negated_high, negated_low}
 use Rattle.bounds.proofs.Loop.{Holds}
 use Rattle.bounds.proofs.AccurateSeries.{argument_bounds}
-use Rattle.bounds.proofs.Multiples.{whole_is, whole_same, multiple_from, last_within}
+use Rattle.bounds.proofs.Multiples.{whole_is, whole_same, whole_operand, multiple_least, leads_multiple}
 
 -- ---- the constants
 inverse_size : Abs (exactly log2_inv) (2 ^ 257)
@@ -89,27 +86,13 @@ tiny_operand : Operand log2_tiny
 unfolding of_bits
 tiny_operand = sized_operand log2_tiny (known 0x398f97b57a079a19 tt) tiny_size tt
 
--- m b + m c = m (b + c), for a whole number m
 -- a + ((b + c) + d) = ((a + b) + c) + d
 gathered : (a b c d : Q) → Near (a ⊕ (b ⊕ c ⊕ d)) (a ⊕ b ⊕ c ⊕ d) 0
-gathered a b c d = near_to 0 (sym_near (grouped a (b ⊕ c) d) then plus (sym_near (grouped a b c)) (itself d)) tt
-
--- ---- the square as a pair, negated
-negated_close : (x : Float) → Abs (exactly x) (2 ^ 261) → (l h : Float) → ProductMeans x x l h → Near (exactly (neg h) ⊕ exactly (neg l)) (minus (exactly x ⊗ exactly x)) (2 ^ 162 + 2 ^ 150)
-negated_close x xs l h U =
-    let P : Parts (single x) (2 ^ 261) 0 = record { hi = xs; lo = no_size } in
-    let s = pair_near P P (product_means x x l h U) then product_near (kept (exactly x) no_size) (value_size P) (kept (exactly x) no_size) xs in
-    near_to (2 ^ 162 + 2 ^ 150) (plus (same_near (neg_same h)) (same_near (neg_same l)) then near_minus s) tt
+gathered a b c d = near_to 0 (near_sym (grouped a (b ⊕ c) d) then near_add (near_sym (grouped a b c)) (near_refl d)) tt
 
 -- ---- c, the high part of -x², is near K log 2, with the high part of log 2 alone
-module _ (c : Float) (C : Operand c) (cs : Abs (exactly c) (2 ^ 267)) (k : Q) (K : Same (exactly (round_ties_even binary64 (mul binary64 c log2_inv))) k) where
-  scaled_near : Near (exactly c ⊗ exactly log2_inv) k (2 ^ 255 + 2 ^ 216)
-  scaled_near = near_to (2 ^ 255 + 2 ^ 216) (sym_near (times_near (product_rounds c log2_inv C inverse_operand) (product_size cs inverse_size)) then whole_half (mul binary64 c log2_inv) (product_good c log2_inv C inverse_operand) then same_near K) tt
-
-  head_near : Near (exactly c) (k ⊗ exactly log2_high) (355 * 2 ^ 246 + 2 ^ 217)
-  head_near = near_to (355 * 2 ^ 246 + 2 ^ 217)
-      (sym_near (by_one (exactly c)) then N.near_mulʳ G G>0 {e = 2 ^ 202} {m = 2 ^ 267} {k = 2 ^ 213} (sym_near inverses) cs (lit≤ tt) then sym_near (product_grouped (exactly c) (exactly log2_inv) (exactly log2_high))
-      then N.near_mulˡ G G>0 {e = 2 ^ 255 + 2 ^ 216} {m = 710 * 2 ^ 246} {k = 355 * 2 ^ 246 + 2 ^ 216} scaled_near high_size (lit≤ tt)) tt
+head_near : (c : Float) → Operand c → Abs (exactly c) (2 ^ 267) → (k : Q) → Same (exactly (round_ties_even binary64 (mul binary64 c log2_inv))) k → Near (exactly c) (k ⊗ exactly log2_high) (355 * 2 ^ 246 + 2 ^ 217)
+head_near c C cs k K = near_to (355 * 2 ^ 246 + 2 ^ 217) (multiple_near log2_inv log2_high c inverse_operand C inverse_size high_size inverses cs k K) tt
 
 -- ---- whole numbers of the high part of log 2
 high_abs : 2 ^ 1073 ≤ nat_abs (val log2_high)
@@ -119,14 +102,14 @@ high_abs = lit≤ tt
 -- c + N h in the unit of a product, where c is in units of l
 fine_is : (c h : ℤ) (n l : ℕ) → (c +ℤ pos n *ℤ h) *ℤ pos l ≡ pos (n * l) *ℤ h +ℤ c *ℤ pos l
 fine_is c h n l =
-    dist c (pos n *ℤ h) (pos l) ∙ ap (λ (z : ℤ). c *ℤ pos l +ℤ z) (massoc (pos n) h (pos l) ∙ ap (λ (z : ℤ). pos n *ℤ z) (mcomm h (pos l)) ∙ sym (massoc (pos n) (pos l) h)) ∙ swapped (c *ℤ pos l) (pos (n * l) *ℤ h)
+    dist c (pos n *ℤ h) (pos l) ∙ ap (λ (z : ℤ). c *ℤ pos l +ℤ z) (massoc (pos n) h (pos l) ∙ ap (λ (z : ℤ). pos n *ℤ z) (mcomm h (pos l)) ∙ sym (massoc (pos n) (pos l) h)) ∙ +ℤ_comm (c *ℤ pos l) (pos (n * l) *ℤ h)
 
 module _ (n : ℕ) (low : 12 ≤ suc n) (high : suc n ≤ 1070) where
   abbrev j : Float
   j = of_int binary64 (pos (suc n))
 
   n_size : Abs (whole (suc n)) (1070 * 2 ^ 256)
-  n_size = whole_size G G>0 (suc n) 1070 high
+  n_size = whole_size (suc n) 1070 high
 
   j_is : val j ≡ pos (suc n * 2 ^ 1074)
   j_is = (whole_is (pos (suc n)) (omega arith)).1
@@ -135,10 +118,10 @@ module _ (n : ℕ) (low : 12 ≤ suc n) (high : suc n ≤ 1070) where
   j_same = whole_same (pos (suc n)) (omega arith)
 
   j_size : Abs (exactly j) (1070 * 2 ^ 256)
-  j_size = abs_to (1070 * 2 ^ 256) (moved n_size (sym_near (same_near j_same))) tt
+  j_size = abs_to (1070 * 2 ^ 256) (abs_near n_size (near_sym (near_same j_same))) tt
 
   j_operand : Operand j
-  j_operand = sized_operand j (record { holds = of_int-fits binary64 (pos (suc n)); number = (whole_is (pos (suc n)) (omega arith)).0 }) j_size tt
+  j_operand = whole_operand (pos (suc n)) (omega arith)
 
   -- the exact -x² - K log 2, of the high parts
   module _ (c : Float) (cn : Number c) (ck : Near (exactly c) (integer (negsuc n) ⊗ exactly log2_high) (355 * 2 ^ 246 + 2 ^ 217)) where
@@ -153,21 +136,21 @@ module _ (n : ℕ) (low : 12 ≤ suc n) (high : suc n ≤ 1070) where
 
     z_size : Abs (units z) (355 * 2 ^ 246 + 2 ^ 217)
     z_size = abs_to (355 * 2 ^ 246 + 2 ^ 217)
-        (moved (difference_size ck) (one_plus (exactly c) (same_near (minus_product (integer (negsuc n)) (exactly log2_high))) then sym_near (same_near z_same))) tt
+        (abs_near (difference_size ck) (one_plus (exactly c) (near_same (minus_product (integer (negsuc n)) (exactly log2_high))) then near_sym (near_same z_same))) tt
 
     -- c is at most -1/2, so a multiple of 2 ^ -53
     c_least : Least G (minus (exactly c)) (2 ^ 255)
-    c_least = near_least G G>0 {e = 355 * 2 ^ 246 + 2 ^ 217 + 0} {k = 2 ^ 255} (least_to (2 ^ 255 + (355 * 2 ^ 246 + 2 ^ 217 + 0)) (least_product (12 * 2 ^ 255) (whole_least G G>0 (suc n) 12 low) high_least tt) tt)
-        (sym_near (near_minus ck then same_near (minus_product (integer (negsuc n)) (exactly log2_high))))
+    c_least = near_least {e = 355 * 2 ^ 246 + 2 ^ 217 + 0} {k = 2 ^ 255} (least_to (2 ^ 255 + (355 * 2 ^ 246 + 2 ^ 217 + 0)) (least_product (12 * 2 ^ 255) (whole_least (suc n) 12 low) high_least tt) tt)
+        (near_sym (near_minus ck then near_same (minus_product (integer (negsuc n)) (exactly log2_high))))
 
     c_multiple : Mult 1021 (val c)
-    c_multiple = multiple_from 1021 c cn.holds (le_of_mul-le-mul_right (le_trans (lit≤ tt) (minus_least G G>0 (val c) c_least)) G>0)
+    c_multiple = multiple_least 1021 c cn c_least tt
 
     z_multiple : Mult 1021 z
     z_multiple = mult_add 1021 (val c) (pos (suc n) *ℤ val log2_high) c_multiple (mult_scale 1021 (pos (suc n)) (val log2_high) high_multiple)
 
     z_below : nat_abs z ≤ 2 ^ 53 * 2 ^ 1021
-    z_below = le_of_mul-le-mul_right (le_trans (in_units G G>0 z z_size) (lit≤ tt)) G>0
+    z_below = units_below z z_size (2 ^ 53 * 2 ^ 1021) tt
 
     z_is : IsF64 z
     z_is = to_f64 z (repr_of 1021 z z_multiple (abs_le z (2 ^ 53 * 2 ^ 1021) z_below)) (lt_of_le_of_lt z_below (lit< tt))
@@ -201,10 +184,10 @@ module _ (n : ℕ) (low : 12 ≤ suc n) (high : suc n ≤ 1070) where
       p_number = product_good j log2_low j_operand low_operand
 
       p_near : Near (exactly p) (whole (suc n) ⊗ exactly log2_low) (2 ^ 159)
-      p_near = near_to (2 ^ 159) (times_near (product_rounds j log2_low j_operand low_operand) (product_size j_size low_size) then R.equal_factor G G>0 (exactly log2_low) j_same) tt
+      p_near = near_to (2 ^ 159) (times_near (product_rounds j log2_low j_operand low_operand) (product_size j_size low_size) then R.equal_factor (exactly log2_low) j_same) tt
 
       p_size : Abs (exactly p) (2 ^ 212)
-      p_size = abs_to (2 ^ 212) (moved (product_size n_size low_size) (sym_near p_near)) tt
+      p_size = abs_to (2 ^ 212) (abs_near (product_size n_size low_size) (near_sym p_near)) tt
 
       -- its exact sum with d
       abbrev th : Float
@@ -226,17 +209,14 @@ module _ (n : ℕ) (low : 12 ≤ suc n) (high : suc n ≤ 1070) where
       tl_number = record { holds = add-fits binary64 _ _; number = t_sum.lo_number }
 
       th_size : Abs (exactly th) (2 ^ 215)
-      th_size = abs_to (2 ^ 215) (exact_high t_exact (sum_size p_size ds)) tt
+      th_size = abs_to (2 ^ 215) (exact_high t_exact (abs_add p_size ds)) tt
 
       tl_size : Abs (exactly tl) (2 ^ 162)
-      tl_size = abs_to (2 ^ 162) (exact_low t_exact (sum_size p_size ds)) tt
+      tl_size = abs_to (2 ^ 162) (exact_low t_exact (abs_add p_size ds)) tt
 
       -- its last place divides h
-      th_below : nat_abs (val th) ≤ 2 ^ 1033
-      th_below = le_of_mul-le-mul_right (le_trans (in_units G G>0 (val th) th_size) (lit≤ tt)) G>0
-
       leads : Leads h th
-      leads = inr (inr (mult_down (last th) 1021 (val h) (last_within 1021 th (lt_of_le_of_lt th_below (lit< tt))) (subst (Mult 1021) (sym h_is) z_multiple)))
+      leads = leads_multiple 1021 h th (subst (Mult 1021) (sym h_is) z_multiple) th_size tt
 
       abbrev yh : Float
       yh = (fast_two_sum h th).hi
@@ -257,10 +237,10 @@ module _ (n : ℕ) (low : 12 ≤ suc n) (high : suc n ≤ 1070) where
       yh_number = record { holds = add-fits binary64 h th; number = y_sum.hi_number }
 
       yh_size : Abs (exactly yh) (355 * 2 ^ 246 + 2 ^ 218)
-      yh_size = abs_to (355 * 2 ^ 246 + 2 ^ 218) (exact_high y_exact (sum_size h_size th_size)) tt
+      yh_size = abs_to (355 * 2 ^ 246 + 2 ^ 218) (exact_high y_exact (abs_add h_size th_size)) tt
 
       yl_size : Abs (exactly yl) (2 ^ 202)
-      yl_size = abs_to (2 ^ 202) (exact_low y_exact (sum_size h_size th_size)) tt
+      yl_size = abs_to (2 ^ 202) (exact_low y_exact (abs_add h_size th_size)) tt
 
       -- the low parts together
       abbrev v : Float
@@ -276,10 +256,10 @@ module _ (n : ℕ) (low : 12 ≤ suc n) (high : suc n ≤ 1070) where
       v_number = record { holds = add-fits binary64 yl tl; number = (good_add yl tl 1100 yl_good tl_good (lit< tt)).0.number }
 
       v_near : Near (exactly v) (exactly yl ⊕ exactly tl) (2 ^ 150)
-      v_near = near_to (2 ^ 150) (rounded_near (sum_means yl tl 1100 yl_good tl_good (lit< tt)) (sum_size yl_size tl_size)) tt
+      v_near = near_to (2 ^ 150) (rounded_near (sum_means yl tl 1100 yl_good tl_good (lit< tt)) (abs_add yl_size tl_size)) tt
 
       v_size : Abs (exactly v) (2 ^ 202 + 2 ^ 163)
-      v_size = abs_to (2 ^ 202 + 2 ^ 163) (moved (sum_size yl_size tl_size) (sym_near v_near)) tt
+      v_size = abs_to (2 ^ 202 + 2 ^ 163) (abs_near (abs_add yl_size tl_size) (near_sym v_near)) tt
 
       v_operand : Operand v
       v_operand = sized_operand v v_number v_size tt
@@ -287,49 +267,37 @@ module _ (n : ℕ) (low : 12 ≤ suc n) (high : suc n ≤ 1070) where
       -- and the least part of log 2
       module _ (l : Float) (L : MaddMeans j log2_tiny v l) where
         l_near : Near (exactly l) (exactly v ⊕ whole (suc n) ⊗ exactly log2_tiny) (2 ^ 151)
-        l_near = near_to (2 ^ 151) (fma_near j_size tiny_size v_size (madd_means j log2_tiny v l L) then one_plus (exactly v) (R.equal_factor G G>0 (exactly log2_tiny) j_same)) tt
+        l_near = near_to (2 ^ 151) (fma_near j_size tiny_size v_size (madd_means j log2_tiny v l L) then one_plus (exactly v) (R.equal_factor (exactly log2_tiny) j_same)) tt
 
         l_size : Abs (exactly l) (2 ^ 203)
-        l_size = abs_to (2 ^ 203) (moved (sum_size v_size (product_size n_size tiny_size)) (sym_near l_near)) tt
+        l_size = abs_to (2 ^ 203) (abs_near (abs_add v_size (product_size n_size tiny_size)) (near_sym l_near)) tt
 
         -- the pair against the exact sum
         together : Near (exactly yh ⊕ exactly l) (exactly c ⊕ exactly d ⊕ whole (suc n) ⊗ log2) (2 ^ 160)
         together = near_to (2 ^ 160)
-            (one_plus (exactly yh) (l_near then plus v_near (itself (whole (suc n) ⊗ exactly log2_tiny)))
+            (one_plus (exactly yh) (l_near then near_add v_near (near_refl (whole (suc n) ⊗ exactly log2_tiny)))
             then gathered (exactly yh) (exactly yl) (exactly tl) (whole (suc n) ⊗ exactly log2_tiny)
-            then plus (plus (exact_near y_exact) (itself (exactly tl)) then grouped (exactly h) (exactly th) (exactly tl) then plus (same_near h_same) (exact_near t_exact then plus p_near (itself (exactly d)))) (itself (whole (suc n) ⊗ exactly log2_tiny))
-            then plus (swap (exactly c) (whole (suc n) ⊗ exactly log2_high) (whole (suc n) ⊗ exactly log2_low) (exactly d)) (itself (whole (suc n) ⊗ exactly log2_tiny))
+            then near_add (near_add (exact_near y_exact) (near_refl (exactly tl)) then grouped (exactly h) (exactly th) (exactly tl) then near_add (near_same h_same) (exact_near t_exact then near_add p_near (near_refl (exactly d)))) (near_refl (whole (suc n) ⊗ exactly log2_tiny))
+            then near_add (swap (exactly c) (whole (suc n) ⊗ exactly log2_high) (whole (suc n) ⊗ exactly log2_low) (exactly d)) (near_refl (whole (suc n) ⊗ exactly log2_tiny))
             then grouped (exactly c ⊕ exactly d) (whole (suc n) ⊗ exactly log2_high ⊕ whole (suc n) ⊗ exactly log2_low) (whole (suc n) ⊗ exactly log2_tiny)
-            then one_plus (exactly c ⊕ exactly d) (plus (spread (whole (suc n)) (exactly log2_high) (exactly log2_low)) (itself (whole (suc n) ⊗ exactly log2_tiny)) then spread (whole (suc n)) (exactly log2_high ⊕ exactly log2_low) (exactly log2_tiny))) tt
+            then one_plus (exactly c ⊕ exactly d) (near_add (spread (whole (suc n)) (exactly log2_high) (exactly log2_low)) (near_refl (whole (suc n) ⊗ exactly log2_tiny)) then spread (whole (suc n)) (exactly log2_high ⊕ exactly log2_low) (exactly log2_tiny))) tt
 
         pair_holds : (X : Q) → Near (exactly c ⊕ exactly d) X (2 ^ 162 + 2 ^ 150) → Holds argument_bounds (record { lo = l; hi = yh }) (X ⊕ minus (integer (negsuc n) ⊗ log2))
         pair_holds X q =
-            let e = near_to (2 ^ 163) (together then plus q (sym_near (same_near (minus_product (integer (negsuc n)) log2)))) tt in
+            let e = near_to (2 ^ 163) (together then near_add q (near_sym (near_same (minus_product (integer (negsuc n)) log2)))) tt in
             record {
               lo_number = L.answer;
               hi_number = yh_number;
               parts = record { hi = abs_to (89 * 2 ^ 248) yh_size tt; lo = l_size };
               near = e;
-              size = abs_to (89 * 2 ^ 248) (moved (sum_size yh_size l_size) e) tt;
+              size = abs_to (89 * 2 ^ 248) (abs_near (abs_add yh_size l_size) e) tt;
             }
-
--- ---- a tail argument is at most 32
-argument_size : (x : Float) → Argument x tail_end → Abs (exactly x) (2 ^ 261)
-argument_size x a =
-    let v = tail_value x a in
-    from_units (val x) (2 ^ 261) (subst (λ (y : ℤ). nat_abs y * G ≤ 2 ^ 261 * 2 ^ 1074) (sym v.is) (le_trans (mul-le-mul_right G (mul-le-mul (le_of_lt v.high) (pow_mono v.last))) (lit≤ tt)))
 
 module _ {S : Type 0} (o : Ops S) (m : Meaning o) where
   -- with the multiple -(n + 1)
   module _ (t : S) (x : Float) (xs : Abs (exactly x) (2 ^ 261)) (l h : Float) (U : ProductMeans x x l h) (n : ℕ) (low : 12 ≤ suc n) (high : suc n ≤ 1070) (e : accurate_multiple (neg h) ≡ of_int binary64 (negsuc n)) where
-    c_number : Number (neg h)
-    c_number = record { holds = neg-fits binary64 h U.high.holds; number = finite_neg h U.high.number }
-
-    d_number : Number (neg l)
-    d_number = record { holds = neg-fits binary64 l U.low.holds; number = finite_neg l U.low.number }
-
     c_operand : Operand (neg h)
-    c_operand = sized_operand (neg h) c_number (negated_high x xs l h U) tt
+    c_operand = sized_operand (neg h) (neg_number U.high) (negated_high x xs l h U) tt
 
     c_near : Near (exactly (neg h)) (integer (negsuc n) ⊗ exactly log2_high) (355 * 2 ^ 246 + 2 ^ 217)
     c_near = head_near (neg h) c_operand (negated_high x xs l h U) (integer (negsuc n)) (subst (λ (z : Float). Same (exactly z) (integer (negsuc n))) (sym e) (whole_same (negsuc n) (omega arith)))
@@ -342,25 +310,19 @@ module _ {S : Type 0} (o : Ops S) (m : Meaning o) where
         let r = o.multiply_add t f log2_high (neg h) in
         let M = m.multiply_add t f log2_high (neg h) F high_operand c_operand in
         let ds = negated_low x xs l h U in
-        let w = v n low high (neg h) c_number c_near (neg l) r.1 d_number ds M in
-        let L = m.multiply_add r.0 f log2_tiny w F tiny_operand (v_operand n low high (neg h) c_number c_near (neg l) r.1 d_number ds M) in
-        pair_holds n low high (neg h) c_number c_near (neg l) r.1 d_number ds M (o.multiply_add r.0 f log2_tiny w).1 L (minus (exactly x ⊗ exactly x)) (negated_close x xs l h U)
+        let w = v n low high (neg h) (neg_number U.high) c_near (neg l) r.1 (neg_number U.low) ds M in
+        let L = m.multiply_add r.0 f log2_tiny w F tiny_operand (v_operand n low high (neg h) (neg_number U.high) c_near (neg l) r.1 (neg_number U.low) ds M) in
+        pair_holds n low high (neg h) (neg_number U.high) c_near (neg l) r.1 (neg_number U.low) ds M (o.multiply_add r.0 f log2_tiny w).1 L (minus (exactly x ⊗ exactly x)) (negated_near x xs l h U)
 
-  -- the same with the multiple as it is computed
-  of_product : (s t : S) (x : Float) → Argument x tail_end
+  -- the same with the multiple as it is computed; t is any state
+  pub accurate_argument_lem : (s t : S) (x : Float) → Argument x tail_end
       → Holds argument_bounds (accurate_argument o t (of_int binary64 (neg_ℤ (accurate_multiple_int (neg (o.product s x x).1.hi)))) (negated (o.product s x x).1)).1 (accurate_residue x (accurate_multiple_int (neg (mul binary64 x x))))
-  of_product s t x a =
+  accurate_argument_lem s t x a =
       let u = (o.product s x x).1 in
       let X = operand x tail_end a (lit≤ tt) in
       let r : neg u.hi ≡ neg (mul binary64 x x) = square_is o m s (o.product s x x).0 u (negated u) x tail_end a (lit≤ tt) refl refl in
       let w : Whole (accurate_multiple (neg u.hi)) 12 1070 = accurate_whole o m s (o.product s x x).0 u (negated u) x a refl refl in
-      let c : accurate_multiple_int (neg u.hi) ≡ negsuc w.n = cast_is (accurate_multiple (neg u.hi)) 12 1070 31 w (lit≤ tt) (lit≤ tt) in
+      let c : accurate_multiple_int (neg u.hi) ≡ negsuc w.n = cast_is (accurate_multiple (neg u.hi)) 11 1069 31 w (lit≤ tt) (lit≤ tt) in
       subst (λ (z : Float). Holds argument_bounds (accurate_argument o t (of_int binary64 (neg_ℤ (accurate_multiple_int (neg u.hi)))) (negated u)).1 (accurate_residue x (accurate_multiple_int z))) {x = neg u.hi} {y = neg (mul binary64 x x)} r
       (subst (λ (k : ℤ). Holds argument_bounds (accurate_argument o t (of_int binary64 (neg_ℤ k)) (negated u)).1 (accurate_residue x k)) {x = negsuc w.n} {y = accurate_multiple_int (neg u.hi)} (sym c)
       (reduced t x (argument_size x a) u.lo u.hi (m.product s x x X X) w.n w.least w.most w.is))
-
-  -- t is any state, u the product of x and x at some state s
-  pub accurate_argument_lem : (s t : S) (x : Float) (u : DoubleDouble) → Argument x tail_end → (o.product s x x).1 ≡ u
-      → Holds argument_bounds (accurate_argument o t (of_int binary64 (neg_ℤ (accurate_multiple_int (neg u.hi)))) (negated u)).1 (accurate_residue x (accurate_multiple_int (neg (mul binary64 x x))))
-  accurate_argument_lem s t x u a e =
-      subst (λ (d : DoubleDouble). Holds argument_bounds (accurate_argument o t (of_int binary64 (neg_ℤ (accurate_multiple_int (neg d.hi)))) (negated d)).1 (accurate_residue x (accurate_multiple_int (neg (mul binary64 x x))))) e (of_product s t x a)

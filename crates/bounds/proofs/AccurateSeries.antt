@@ -1,5 +1,5 @@
 -- The accurate exponential's polynomial at a pair near w: how far it is from the exact series S(w), and its size. Assumes nothing.
-use Rattle.std.proofs.Common.{ℕ, ◌+◌, ◌*◌, ◌^◌, ◌≤◌, Bool, false, T, List, [], ◌∷◌, arith}
+use Rattle.std.proofs.Common.{ℕ, ◌+◌, ◌*◌, ◌^◌, Bool, false, T, List, [], ◌∷◌, arith}
 use lib.Ieee.{Float, of_bits}
 use lib.Ieee.Scale.{finite}
 use Rattle.ieee.specs.Meaning.{Number}
@@ -10,20 +10,22 @@ use Rattle.erfc.specs.Horner.{horner}
 use Rattle.erfc.specs.Exponentials.{upper_term, lower_term, leading_degrees}
 use Rattle.bounds.specs.Num.{Q, ◌⊗◌}
 use Rattle.bounds.specs.Steps.{PairMul, Fma}
-use Rattle.bounds.specs.Floats.{single}
-use Rattle.bounds.specs.Floats.{exactly}
+use Rattle.bounds.specs.Floats.{single, exactly}
 use Rattle.bounds.specs.Formulas.{sum_of, polynomial}
 use Rattle.bounds.specs.Polynomials.{singles_of}
 use Rattle.bounds.specs.AccurateFormulas.{series_coefficients}
+use Rattle.bounds.proofs.Near.{abs_add, abs_near, near_add, near_refl, near_sym}
+use Rattle.bounds.proofs.Computed.{kept, product_size}
 use Rattle.bounds.proofs.Near as N
 use Rattle.bounds.proofs.Computed as Comp
 use Rattle.bounds.proofs.Chain as C
-use Rattle.bounds.proofs.Chain.{G, G>0, Near, Parts, mul_g, shr, ◌then◌, one_plus, sym_near, itself, moved, sum_size, product_size, product_near, kept, no_size, spread, grouped, value_size, pair_near, pair_parts, pair_e, high_e}
+use Rattle.bounds.proofs.Chain.{G, G>0, Near, Parts, mul_g, shr, ◌then◌, one_plus, product_near, no_size, spread, grouped, value_size, pair_near, pair_parts, pair_e, high_e}
 use Rattle.bounds.proofs.FromMeaning.{madd_means, product_means}
-use Rattle.bounds.proofs.Loop.{State, pair, Holds, One, Rule, above, modest, operand, added, safe, added_holds, fma_state, fma_one, ready, bounds_of, tests, loop_holds, leading, leading_one}
+use Rattle.bounds.proofs.Loop.{State, pair, Holds, One, Rule, above, modest, operand, added, safe, added_holds, head, head_one, fma_state, madd_one, ready, bounds_of, tests, loop_holds, leading, leading_one}
 use Rattle.bounds.proofs.Sizes.{known}
-use Rattle.bounds.proofs.Rules.{conj, pick, tabled, adds_one, adds_both}
-use Rattle.bounds.proofs.FromBelow.{Bounded, fine, bounds_hold}
+use Rattle.bounds.proofs.Rules.{conj, pick, adds_one, adds_both}
+use Rattle.bounds.proofs.FromBelow.{fine, bounds_hold}
+use Rattle.bounds.proofs.AtScale.{At}
 
 -- at the scale 2 ^ 256, what is known of the reduced argument: |hi| and |w| at most 0.3477, |lo| at most 2 ^ -53, the pair within 2 ^ -93 of w
 abbrev pub argument_bounds : State
@@ -35,7 +37,7 @@ series_bounds = record { high = 3 * 2 ^ 255; low = 2 ^ 210; error = 2 ^ 166; siz
 
 -- and S(w) at least 1/2
 abbrev pub SeriesNear : DoubleDouble → Q → Type 0
-SeriesNear e X = Bounded series_bounds (2 ^ 255) e X
+SeriesNear e X = At G G>0 e X series_bounds.high series_bounds.low series_bounds.error series_bounds.size (2 ^ 255)
 
 -- ---- a number times a pair, in two steps: the product t with the high part, then the low part added to the low part of t
 -- the pair t is off by as much
@@ -58,14 +60,11 @@ two_steps S A = record {
   size = mul_g S.size A.size;
 }
 
-zeros : (l p e : ℕ) → l + (0 + (p + 0 + (0 + e))) ≤ l + (p + e)
-zeros l p e = omega arith
-
 -- the parts of t
 product_parts : {S A : State} {c : Float} {y : DoubleDouble} (t : DoubleDouble) {Z W : Q} → One S c Z → Holds A y W → PairMul (single c) (single y.hi) (pair t) → Parts (pair t) (mul_g S.high A.high + high_e S.high A.high) (product_low S A)
 product_parts t h k m = pair_parts (record { hi = h.high; lo = no_size }) (record { hi = k.parts.hi; lo = no_size }) m
 
--- t itself
+-- t near_refl
 exact_product : {S A : State} {c : Float} {y : DoubleDouble} (t : DoubleDouble) {Z W : Q} → One S c Z → Holds A y W → PairMul (single c) (single y.hi) (pair t) → Near (sum_of t) (exactly c ⊗ exactly y.hi) (product_lost S A)
 exact_product {S} {A} {c} {y} t h k m =
     let P : Parts (single c) S.high 0 = record { hi = h.high; lo = no_size } in
@@ -82,10 +81,10 @@ two_steps_hold {S} {A} c y t l h k m f nl nh =
     record {
       lo_number = nl;
       hi_number = nh;
-      parts = record { hi = p.hi; lo = moved (sum_size p.lo (product_size h.high k.parts.lo)) (sym_near r) };
-      near = N.near_weaken G G>0 (zeros (low_lost S A) (product_lost S A) (mul_g S.error (A.high + A.low) + mul_g A.error S.size))
-          (one_plus (exactly t.hi) r then sym_near (grouped (exactly t.hi) (exactly t.lo) cl)
-          then C.plus (exact_product t h k m) (itself cl) then spread (exactly c) (exactly y.hi) (exactly y.lo)
+      parts = record { hi = p.hi; lo = abs_near (abs_add p.lo (product_size h.high k.parts.lo)) (near_sym r) };
+      near = N.near_weaken (omega arith)
+          (one_plus (exactly t.hi) r then near_sym (grouped (exactly t.hi) (exactly t.lo) cl)
+          then near_add (exact_product t h k m) (near_refl cl) then spread (exactly c) (exactly y.hi) (exactly y.lo)
           then product_near h.near (value_size k.parts) k.near h.size);
       size = product_size h.size k.size;
     }
@@ -99,13 +98,13 @@ lower_rule = adds_both false exp_numbers
 
 -- ---- the bounds, for y with the bounds A
 abbrev degree18 : State → State
-degree18 A = fma_state (leading (exp_number 27)) A (exp_number 26)
+degree18 A = fma_state (leading (exp_number 27)) (head A) (exp_number 26)
 
 abbrev degree17 : State → State
-degree17 A = fma_state (degree18 A) A (exp_number 25)
+degree17 A = fma_state (degree18 A) (head A) (exp_number 25)
 
 abbrev degree16 : State → State
-degree16 A = fma_state (degree17 A) A (exp_number 24)
+degree16 A = fma_state (degree17 A) (head A) (exp_number 24)
 
 abbrev degree15 : State → State
 degree15 A = added (two_steps (degree16 A) A) (exp_number 23)
@@ -138,18 +137,18 @@ module _ {S : Type 0} (o : Ops S) (m : Meaning o) where
   unfolding leading_degrees
   leading_holds s A y W k t =
       let ts = leading_tests A in
-      let yh = operand y.hi k.hi_number k.parts.hi (Comp.and_l (modest A.high) (modest A.low) (pick 0 ts t)) in
-      let yl = operand y.lo k.lo_number k.parts.lo (Comp.and_r (modest A.high) (modest A.low) (pick 0 ts t)) in
+      let r = pick 0 ts t in
+      let r' = Comp.and_l (modest A.high) (modest A.low) r in
+      let h = head_one y k in
+      let yh = operand y.hi k.hi_number k.parts.hi r' in
+      let yl = operand y.lo k.lo_number k.parts.lo (Comp.and_r (modest A.high) (modest A.low) r) in
       let h₁₉ = leading_one (exp_number 27) W (known _ (pick 1 ts t)) k in
       let a = o.multiply_add s (exp_number 27) y.hi (exp_number 26) in
-      let wa = m.multiply_add s (exp_number 27) y.hi (exp_number 26) (tabled _ (pick 1 ts t) (pick 2 ts t)) yh (tabled _ (pick 3 ts t) (pick 4 ts t)) in
-      let h₁₈ = fma_one (exp_number 26) (exp_number 27) y a.1 h₁₉ k (madd_means _ _ _ _ wa) wa.answer in
+      let h₁₈ = madd_one o m s (exp_number 26) (exp_number 27) y.hi h₁₉ (pick 2 ts t) h r' (known _ (pick 3 ts t)) (pick 4 ts t) in
       let b = o.multiply_add a.0 a.1 y.hi (exp_number 25) in
-      let wb = m.multiply_add a.0 a.1 y.hi (exp_number 25) (operand a.1 h₁₈.number h₁₈.high (pick 9 ts t)) yh (tabled _ (pick 5 ts t) (pick 6 ts t)) in
-      let h₁₇ = fma_one (exp_number 25) a.1 y b.1 h₁₈ k (madd_means _ _ _ _ wb) wb.answer in
+      let h₁₇ = madd_one o m a.0 (exp_number 25) a.1 y.hi h₁₈ (pick 9 ts t) h r' (known _ (pick 5 ts t)) (pick 6 ts t) in
       let c = o.multiply_add b.0 b.1 y.hi (exp_number 24) in
-      let wc = m.multiply_add b.0 b.1 y.hi (exp_number 24) (operand b.1 h₁₇.number h₁₇.high (pick 10 ts t)) yh (tabled _ (pick 7 ts t) (pick 8 ts t)) in
-      let h₁₆ = fma_one (exp_number 24) b.1 y c.1 h₁₇ k (madd_means _ _ _ _ wc) wc.answer in
+      let h₁₆ = madd_one o m b.0 (exp_number 24) b.1 y.hi h₁₇ (pick 10 ts t) h r' (known _ (pick 7 ts t)) (pick 8 ts t) in
       let oc = operand c.1 h₁₆.number h₁₆.high (pick 11 ts t) in
       let p = o.product c.0 c.1 y.hi in
       let wp = m.product c.0 c.1 y.hi oc yh in
@@ -157,8 +156,8 @@ module _ {S : Type 0} (o : Ops S) (m : Meaning o) where
       let l = o.multiply_add p.0 c.1 y.lo p.1.lo in
       let wl = m.multiply_add p.0 c.1 y.lo p.1.lo oc yl (operand p.1.lo wp.low (product_parts p.1 h₁₆ k pm).lo (pick 12 ts t)) in
       let v : DoubleDouble = record { lo = l.1; hi = p.1.hi } in
-      let h = two_steps_hold c.1 y p.1 l.1 h₁₆ k pm (madd_means _ _ _ _ wl) wl.answer wp.high in
-      added_holds false (two_steps (degree16 A) A) (exp_number 23) v _ (known _ (pick 13 ts t)) h (pick 14 ts t)
+      let h₁₅ = two_steps_hold c.1 y p.1 l.1 h₁₆ k pm (madd_means _ _ _ _ wl) wl.answer wp.high in
+      added_holds false (two_steps (degree16 A) A) (exp_number 23) v _ (known _ (pick 13 ts t)) h₁₅ (pick 14 ts t)
 
   abbrev pub series_steps : S → DoubleDouble → S × DoubleDouble
   series_steps s y =

@@ -1,5 +1,6 @@
 -- The scaled answer: what `scaled_value` gives of a pair of f64, in units. Assumes nothing.
 use Rattle.std.proofs.Common.{◌≡◌, ℕ, suc, ◌*◌, ◌^◌, ◌<◌, ◌≤◌, Bool, true, false, cond, T, ℤ, pos, negsuc, ◌+ℤ◌, ◌-ℤ◌, ◌*ℤ◌, nat_abs, sym, refl, ap, ◌∙◌, subst, inl, inr, true≢false, le_trans, lt_of_le_of_lt, le_of_lt, mul-le-mul, mul-one, arith, lit<, lit≤, pow_pos, pow_mono}
+use Rattle.std.proofs.Math.IntN.{+ℤ_comm}
 use lib.Ieee.{Float, binary64, of_bits, add, sub, lt}
 use lib.Ieee.Bits.{of_bits-fits}
 use Rattle.ieee.specs.Val.{val, rnd, rz, rq, Under, Mult}
@@ -15,9 +16,9 @@ use Rattle.double_double.specs.Pairs.{rounded_sum}
 use Rattle.erfc.specs.Scaling.{ldexp_of}
 use Rattle.erfc.specs.Asymptotics.{min_normal, scaled_value}
 use Rattle.bounds.proofs.Multiples.{multiple_from}
-use Rattle.bounds.proofs.FromMeaning.{swapped}
 use Rattle.bounds.proofs.Units.{Close, Lost, normal_close, lost, corrected}
 use Rattle.bounds.proofs.Ldexp.{IsNumber, grown, scaled_is, Halved, halved}
+use Rattle.bounds.proofs.Sizes.{good_number}
 
 -- the sum of the pair is a, from 2 ^ -20 to 2 in size; the low part is at most 2 ^ -40 of it
 module _ (v : DoubleDouble) (n a : ℕ) (lo : Good v.lo 1076) (hi : Good v.hi 1076) (sum : val v.hi +ℤ val v.lo ≡ pos a) (least : 2 ^ 1054 ≤ a) (most : a ≤ 2 ^ 1075) (low : 2 ^ 40 * nat_abs (val v.lo) ≤ a) (N : n ≤ 1069) where
@@ -30,7 +31,7 @@ module _ (v : DoubleDouble) (n a : ℕ) (lo : Good v.lo 1076) (hi : Good v.hi 10
   first_is : IsNumber first (pos (rnd a 1))
   first_is =
       let g = good_add v.lo v.hi 1076 lo hi (lit< tt) in
-      record { number = record { holds = g.0.holds; number = g.0.number }; is = g.1 ∙ ap rz (swapped (val v.lo) (val v.hi) ∙ sum) }
+      record { number = good_number g.0; is = g.1 ∙ ap rz (+ℤ_comm (val v.lo) (val v.hi) ∙ sum) }
 
   first_large : 2 ^ 1054 ≤ rnd a 1
   first_large = rnd_at_least a 1 1054 (omega arith) (subst (λ (z : ℕ). z ≤ a) (sym (mul-one (2 ^ 1054))) least)
@@ -70,11 +71,8 @@ module _ (v : DoubleDouble) (n a : ℕ) (lo : Good v.lo 1076) (hi : Good v.hi 10
   large : lt scaled min_normal ≡ false → 2 ^ 52 ≤ units
   large e = elim (order (2 ^ 52) units) [
     | inl g ↦ g
-    | inr g ↦ absurd (subst T e (lt_in scaled min_normal scaled_units.number.holds min_is.number.holds scaled_units.number.number min_is.number.number (below (val scaled) (val min_normal) units scaled_units.is min_is.is g)))
+    | inr g ↦ absurd (subst T e (lt_in scaled min_normal scaled_units.number.holds min_is.number.holds scaled_units.number.number min_is.number.number (omega (zs, scaled_units.is, min_is.is, g))))
   ]
-    where
-      below : (x y : ℤ) (u : ℕ) → x ≡ pos u → y ≡ pos (2 ^ 52) → u < 2 ^ 52 → Below x y
-      below x y u e f g = omega (zs, e, f, g)
 
   few : lt scaled min_normal ≡ true → units < 2 ^ 52
   few e = under_it (val scaled) (val min_normal) units scaled_units.is min_is.is (lt_out scaled min_normal scaled_units.number.holds min_is.number.holds scaled_units.number.number min_is.number.number (subst T (sym e) tt))
@@ -112,7 +110,7 @@ module _ (v : DoubleDouble) (n a : ℕ) (lo : Good v.lo 1076) (hi : Good v.hi 10
     rest_is : IsNumber rest (rz (rz (val v.hi -ℤ pos (units * P)) +ℤ val v.lo))
     rest_is =
         let g = good_add gap v.lo 1123 gap_is.0 (good_up v.lo 1076 1123 (lit≤ tt) lo) (lit< tt) in
-        record { number = record { holds = g.0.holds; number = g.0.number }; is = g.1 ∙ ap (λ (z : ℤ). rz (z +ℤ val v.lo)) gap_is.1 }
+        record { number = good_number g.0; is = g.1 ∙ ap (λ (z : ℤ). rz (z +ℤ val v.lo)) gap_is.1 }
 
     rest_lost : Lost a units (val rest) n
     rest_lost = subst (λ (z : ℤ). Lost a units z n) (sym rest_is.is) (lost a n (val v.hi) (val v.lo) sum low few)
@@ -135,7 +133,7 @@ module _ (v : DoubleDouble) (n a : ℕ) (lo : Good v.lo 1076) (hi : Good v.hi 10
         record {
           w = pos units +ℤ c;
           is = record {
-            number = record { holds = g.0.holds; number = g.0.number };
+            number = good_number g.0;
             is = g.1 ∙ ap rz (λ i. scaled_units.is i +ℤ D.is i) ∙ exact (pos units +ℤ c) (rz (pos units +ℤ c)) (rounds (pos units +ℤ c)) (repr_small (pos units +ℤ c) (abs_le (pos units +ℤ c) (2 ^ 53) (le_trans sum_close.0 (lit≤ tt))));
           };
           close = sum_close.1;

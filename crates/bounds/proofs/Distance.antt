@@ -1,31 +1,24 @@
 -- From the error of the accurate step's pair to the distance of the answer: less than one unit. Assumes nothing.
 use Rattle.std.proofs.Common.{◌≡◌, ℕ, suc, ◌+◌, ◌-◌, ◌*◌, ◌^◌, ◌<◌, ◌≤◌, ◌⊎◌, ℤ, pos, negsuc, ◌+ℤ◌, ◌-ℤ◌, ◌*ℤ◌, nat_abs, sym, refl, ap, ◌∙◌, subst, inl, inr, le_trans, le_of_eq, lt_of_lt_of_le, le_of_lt, mul-le-mul_right, mul-le-mul_left, mul-pos, one-mul, le_of_mul-le-mul_right, arith, lit≤, pow_pos, pow-add}
+use Rattle.std.proofs.Math.IntN.{+ℤ_idr}
 use Rattle.ieee.specs.Val.{val}
 use Rattle.ieee.specs.Pairs.{Good}
-use Rattle.ieee.specs.Meaning.{Operand}
 use Rattle.ieee.proofs.Ints.{zs, abs_mul, massoc}
 use Rattle.double_double.specs.declared.double_double.DoubleDouble.{DoubleDouble}
 use Rattle.erfc.specs.Asymptotics.{scaled_value}
-use Rattle.bounds.specs.Num.{Q, ◌⊗◌, mag, whole, tiny, Within}
+use Rattle.bounds.specs.Num.{Q, ◌⊗◌, tiny}
 use Rattle.bounds.specs.Floats.{units, exactly}
-use Rattle.bounds.specs.Formulas.{power_of, sum_of}
+use Rattle.bounds.specs.Formulas.{power_of}
 use Rattle.bounds.specs.AccurateFormulas.{LessThanUnit}
-use Rattle.bounds.proofs.Over.{Over, over_units, over_tiny, over_zero, over_minus, over_add, over_mul, over_mag, over_scale, over_above, tiny_out, scaled_abs, less_zero, below, negative}
+use Rattle.bounds.proofs.AtScale.{Relative}
+use Rattle.bounds.proofs.Over.{Over, over_units, over_tiny, over_zero, over_minus, over_add, over_mul, over_mag, over_scale, over_above, tiny_out, scaled_abs, below, positive_near}
 use Rattle.bounds.proofs.Answer as W
 
--- ---- the sum is a positive whole number
-sum₀ : (s : ℤ) (d f : ℕ) → 2 ^ 85 * nat_abs (s *ℤ pos d -ℤ pos f) ≤ f → 0 < f → s ≡ pos (nat_abs s)
-sum₀ (pos a) d f h p = refl
-sum₀ (negsuc a) d f h p = absurd (none (nat_abs (negsuc a *ℤ pos d -ℤ pos f)) f (negative a d f) h p)
-  where
-    none : (e f : ℕ) → f ≤ e → 2 ^ 85 * e ≤ f → 0 < f → ⊥
-    none e f h k p = omega (arith, h, k, p)
-
+-- ---- a whole number near a positive one
 twice : (x f : ℕ) → 2 ^ 85 * nat_abs (pos x -ℤ pos f) ≤ f → (f ≤ 2 * x) × (x ≤ 2 * f)
 twice x f h = (omega (zs, h), omega (zs, h))
 
-module _ (v : DoubleDouble) (n : ℕ) (A : Q) (lo : Operand v.lo) (hi : Operand v.hi) (least : A.dn * 256 + A.den ≤ A.up * 256) (most : A.up ≤ A.dn + A.den)
-    (near : Within (sum_of v) A (tiny 85 ⊗ mag A)) (low : Within (exactly v.lo) (whole 0) (tiny 42 ⊗ mag A)) (N : n ≤ 1069) where
+module _ (v : DoubleDouble) (n : ℕ) (A : Q) (r : Relative v A (tiny 85) (tiny 42)) (least : A.dn * 256 + A.den ≤ A.up * 256) (most : A.up ≤ A.dn + A.den) (N : n ≤ 1069) where
   -- A in units of 2 ^ -1074 over its denominator
   abbrev d : ℕ
   d = A.den
@@ -37,31 +30,22 @@ module _ (v : DoubleDouble) (n : ℕ) (A : Q) (lo : Operand v.lo) (hi : Operand 
   s = val v.hi +ℤ val v.lo
 
   f_over : Over A (pos f) (2 ^ 1074 * d)
-  f_over = over_above A (more A.up A.dn d least)
-    where
-      more : (u n d : ℕ) → n * 256 + d ≤ u * 256 → n ≤ u
-      more u n d h = omega (arith, h)
+  f_over = over_above A (omega (arith, least))
 
   f_least : 2 ^ 1066 * d ≤ f
-  f_least = le_trans (mul-le-mul_left (2 ^ 1066) (share A.up A.dn d least)) (le_of_eq (regroup (A.up - A.dn) (2 ^ 1066) (2 ^ 1074) refl))
+  f_least = le_trans (mul-le-mul_left (2 ^ 1066) (omega (arith, least))) (le_of_eq (regroup (A.up - A.dn) (2 ^ 1066) (2 ^ 1074) refl))
     where
-      share : (u n d : ℕ) → n * 256 + d ≤ u * 256 → d ≤ (u - n) * 256
-      share u n d h = omega (arith, h)
-
       regroup : (x l m : ℕ) → m ≡ l * 256 → l * (x * 256) ≡ x * m
       regroup x l m e = omega (arith, ap (λ (z : ℕ). x * z) e)
 
   f_most : f ≤ d * 2 ^ 1074
-  f_most = mul-le-mul_right (2 ^ 1074) (share A.up A.dn d most)
-    where
-      share : (u n d : ℕ) → u ≤ n + d → u - n ≤ d
-      share u n d h = omega (arith, h)
+  f_most = mul-le-mul_right (2 ^ 1074) (omega (arith, most))
 
   near_is : 2 ^ 85 * nat_abs (s *ℤ pos d -ℤ pos f) ≤ f
-  near_is = tiny_out 85 (over_scale d refl (over_add (over_units (val v.hi)) (over_units (val v.lo)))) f_over f_over near
+  near_is = tiny_out 85 (over_scale d refl (over_add (over_units (val v.hi)) (over_units (val v.lo)))) f_over f_over r.near
 
   low_is : 2 ^ 42 * (nat_abs (val v.lo) * d) ≤ f
-  low_is = subst (λ (z : ℕ). 2 ^ 42 * z ≤ f) (less_zero (val v.lo *ℤ pos d) ∙ abs_mul (val v.lo) (pos d)) (tiny_out 42 (over_scale d refl (over_units (val v.lo))) (over_zero (2 ^ 1074 * d)) f_over low)
+  low_is = subst (λ (z : ℕ). 2 ^ 42 * z ≤ f) (ap nat_abs (+ℤ_idr (val v.lo *ℤ pos d)) ∙ abs_mul (val v.lo) (pos d)) (tiny_out 42 (over_scale d refl (over_units (val v.lo))) (over_zero (2 ^ 1074 * d)) f_over r.low_small)
 
   f>0 : 0 < f
   f>0 = lt_of_lt_of_le (mul-pos (pow_pos 1066) A.ok) f_least
@@ -70,16 +54,16 @@ module _ (v : DoubleDouble) (n : ℕ) (A : Q) (lo : Operand v.lo) (hi : Operand 
   a = nat_abs s
 
   s_is : s ≡ pos a
-  s_is = sum₀ s d f near_is f>0
+  s_is = positive_near s d f f>0 (omega (arith, near_is))
 
   a_near : 2 ^ 85 * nat_abs (pos (a * d) -ℤ pos f) ≤ f
   a_near = subst (λ (z : ℤ). 2 ^ 85 * nat_abs (z *ℤ pos d -ℤ pos f) ≤ f) s_is near_is
 
   a_least : 2 ^ 1065 ≤ a
-  a_least = le_of_mul-le-mul_right (half (2 ^ 1065) (2 ^ 1066) a d f refl f_least (twice (a * d) f a_near).0) A.ok
+  a_least = le_of_mul-le-mul_right (share (2 ^ 1065) (2 ^ 1066) a d f refl f_least (twice (a * d) f a_near).0) A.ok
     where
-      half : (k l a d f : ℕ) → l ≡ 2 * k → l * d ≤ f → f ≤ 2 * (a * d) → k * d ≤ a * d
-      half k l a d f e h i = omega (arith, ap (λ (z : ℕ). z * d) e, h, i)
+      share : (k l a d f : ℕ) → l ≡ 2 * k → l * d ≤ f → f ≤ 2 * (a * d) → k * d ≤ a * d
+      share k l a d f e h i = omega (arith, ap (λ (z : ℕ). z * d) e, h, i)
 
   a_most : a ≤ 2 ^ 1075
   a_most = le_of_mul-le-mul_right (double (2 ^ 1074) (2 ^ 1075) a d f refl f_most (twice (a * d) f a_near).1) A.ok
@@ -88,19 +72,16 @@ module _ (v : DoubleDouble) (n : ℕ) (A : Q) (lo : Operand v.lo) (hi : Operand 
       double k l a d f e h i = omega (arith, ap (λ (z : ℕ). z * d) e, h, i)
 
   lo_small : 2 ^ 40 * nat_abs (val v.lo) ≤ a
-  lo_small = le_of_mul-le-mul_right (go (nat_abs (val v.lo)) a d f low_is (twice (a * d) f a_near).0) A.ok
-    where
-      go : (l a d f : ℕ) → 2 ^ 42 * (l * d) ≤ f → f ≤ 2 * (a * d) → 2 ^ 40 * l * d ≤ a * d
-      go l a d f h i = omega (arith, h, i)
+  lo_small = le_of_mul-le-mul_right (omega (arith, low_is, (twice (a * d) f a_near).0)) A.ok
 
   lo_good : Good v.lo 1076
-  lo_good = record { holds = lo.holds; number = lo.number; small = go (nat_abs (val v.lo)) a (2 ^ 1075) (2 ^ 1076) refl a_most lo_small }
+  lo_good = record { holds = r.operands.lo.holds; number = r.operands.lo.number; small = go (nat_abs (val v.lo)) a (2 ^ 1075) (2 ^ 1076) refl a_most lo_small }
     where
       go : (l a m k : ℕ) → k ≡ 2 * m → a ≤ m → 2 ^ 40 * l ≤ a → l ≤ k
       go l a m k e h i = omega (arith, e, h, i)
 
   hi_good : Good v.hi 1076
-  hi_good = record { holds = hi.holds; number = hi.number; small = go (val v.hi) (val v.lo) a (2 ^ 1075) (2 ^ 1076) refl s_is a_most lo_small }
+  hi_good = record { holds = r.operands.hi.holds; number = r.operands.hi.number; small = go (val v.hi) (val v.lo) a (2 ^ 1075) (2 ^ 1076) refl s_is a_most lo_small }
     where
       go : (h l : ℤ) (a m k : ℕ) → k ≡ 2 * m → h +ℤ l ≡ pos a → a ≤ m → 2 ^ 40 * nat_abs l ≤ a → nat_abs h ≤ k
       go h l a m k e g i j = omega (zs, e, g, i, j)
@@ -119,23 +100,14 @@ module _ (v : DoubleDouble) (n : ℕ) (A : Q) (lo : Operand v.lo) (hi : Operand 
 
   -- three quarters of a unit from the pair's sum, in either case
   quarters : 4 * nat_abs (w *ℤ pos P -ℤ pos a) ≤ 3 * (2 ^ j * P)
-  quarters = elim result.close.near [ inl h ↦ h.1 | inr h ↦ fewer (nat_abs (w *ℤ pos P -ℤ pos a)) (2 ^ j * P) h ]
-    where
-      fewer : (e u : ℕ) → 2 ^ 37 * e ≤ (2 ^ 36 + 1) * u → 4 * e ≤ 3 * u
-      fewer e u h = omega (arith, h)
+  quarters = elim result.close.near [ inl h ↦ h.1 | inr h ↦ omega (arith, h) ]
 
   -- so the sum has less than 2 ^ 54 units
   w_below : nat_abs w ≤ 2 ^ 53 * 2 ^ j
-  w_below = elim result.close.unit [ inl h ↦ some (nat_abs w) (2 ^ j) h.0 (pow_pos j) | inr h ↦ subst (λ (z : ℕ). nat_abs w ≤ z) (pow-add 2 53 j) (le_of_lt h.1) ]
-    where
-      some : (w u : ℕ) → w < 2 ^ 52 → 0 < u → w ≤ 2 ^ 53 * u
-      some w u h k = omega (arith, h, k)
+  w_below = elim result.close.unit [ inl h ↦ omega (arith, h.0, pow_pos j) | inr h ↦ subst (λ (z : ℕ). nat_abs w ≤ z) (pow-add 2 53 j) (le_of_lt h.1) ]
 
   a_below : a ≤ 2 ^ 54 * (2 ^ j * P)
-  a_below = go (w *ℤ pos P) a (nat_abs w) (2 ^ j) P (abs_mul w (pos P)) (mul-le-mul_right P w_below) quarters
-    where
-      go : (x : ℤ) (a w u p : ℕ) → nat_abs x ≡ w * p → w * p ≤ 2 ^ 53 * u * p → 4 * nat_abs (x -ℤ pos a) ≤ 3 * (u * p) → a ≤ 2 ^ 54 * (u * p)
-      go x a w u p e h k = omega (zs, e, h, k)
+  a_below = omega (zs, abs_mul w (pos P), mul-le-mul_right P w_below, quarters)
 
   -- all over 2 ^ 1074 2 ^ N d
   apart₀ : (x : ℤ) (y f u : ℕ) → 4 * nat_abs (x -ℤ pos y) ≤ 3 * u → y ≤ 2 ^ 54 * u → 2 ^ 85 * nat_abs (pos y -ℤ pos f) ≤ f → f ≤ 2 * y → 0 < u → nat_abs (x -ℤ pos f) < u
@@ -143,14 +115,8 @@ module _ (v : DoubleDouble) (n : ℕ) (A : Q) (lo : Operand v.lo) (hi : Operand 
 
   apart : nat_abs (w *ℤ pos P *ℤ pos d -ℤ pos f) < 2 ^ j * P * d
   apart = apart₀ (w *ℤ pos P *ℤ pos d) (a * d) f (2 ^ j * P * d)
-      (subst (λ (z : ℕ). 4 * z ≤ 3 * (2 ^ j * P * d)) (sym (scaled_abs (w *ℤ pos P) (pos a) d)) (grown (nat_abs (w *ℤ pos P -ℤ pos a)) (2 ^ j * P) d quarters))
-      (larger a (2 ^ j * P) d a_below) a_near (twice (a * d) f a_near).0 (mul-pos (mul-pos (pow_pos j) (pow_pos (suc n))) A.ok)
-    where
-      grown : (e u d : ℕ) → 4 * e ≤ 3 * u → 4 * (e * d) ≤ 3 * (u * d)
-      grown e u d h = omega (arith, mul-le-mul_right d h)
-
-      larger : (a u d : ℕ) → a ≤ 2 ^ 54 * u → a * d ≤ 2 ^ 54 * (u * d)
-      larger a u d h = omega (arith, mul-le-mul_right d h)
+      (subst (λ (z : ℕ). 4 * z ≤ 3 * (2 ^ j * P * d)) (sym (scaled_abs (w *ℤ pos P) (pos a) d)) (omega (arith, quarters, mul-le-mul_right d quarters)))
+      (omega (arith, a_below, mul-le-mul_right d a_below)) a_near (twice (a * d) f a_near).0 (mul-pos (mul-pos (pow_pos j) (pow_pos (suc n))) A.ok)
 
   pub less_than_unit : LessThanUnit (scaled_value v (negsuc n)) (power_of (negsuc n) ⊗ A)
   less_than_unit = record {
@@ -167,14 +133,11 @@ module _ (v : DoubleDouble) (n : ℕ) (A : Q) (lo : Operand v.lo) (hi : Operand 
       same = ap (λ (z : ℤ). nat_abs (z -ℤ pos f)) (massoc w (pos P) (pos d)) ∙ ap (λ (z : ℕ). nat_abs (w *ℤ pos (P * d) -ℤ pos z)) (sym (one-mul f))
 
       -- over 2 ^ N (2 ^ 1074 d)
-      places : (l p d : ℕ) → l * (p * d) ≡ p * (l * d)
-      places l p d = omega arith
-
       x_over : Over (exactly (scaled_value v (negsuc n))) (w *ℤ pos (P * d)) (P * (2 ^ 1074 * d))
-      x_over = over_scale (P * d) (places (2 ^ 1074) P d) (subst (λ (z : ℤ). Over (units (val (scaled_value v (negsuc n)))) z (2 ^ 1074)) result.is.is (over_units (val (scaled_value v (negsuc n)))))
+      x_over = over_scale (P * d) (omega arith) (subst (λ (z : ℤ). Over (units (val (scaled_value v (negsuc n)))) z (2 ^ 1074)) result.is.is (over_units (val (scaled_value v (negsuc n)))))
 
       g_over : Over (tiny (suc n) ⊗ A) (pos 1 *ℤ pos f) (P * (2 ^ 1074 * d))
       g_over = over_mul (over_tiny (suc n)) f_over
 
       unit_over : Over (units (pos (2 ^ j))) (pos (2 ^ j) *ℤ pos (P * d)) (P * (2 ^ 1074 * d))
-      unit_over = over_scale (P * d) (places (2 ^ 1074) P d) (over_units (pos (2 ^ j)))
+      unit_over = over_scale (P * d) (omega arith) (over_units (pos (2 ^ j)))

@@ -12,28 +12,23 @@ use Rattle.ieee.proofs.Products.{good_times}
 use Rattle.ieee.proofs.Highs.{good_operand}
 use Rattle.ieee.proofs.FusedMadd.{rq_exact}
 use Rattle.ieee.proofs.Thresholds.{pow_split}
+use Rattle.double_double.specs.declared.double_double.DoubleDouble.{DoubleDouble}
 use Rattle.erfc.specs.Scaling.{power}
 use Rattle.erfc.proofs.Powers.{power_down}
 use Rattle.erfc.proofs.Rounded.{rescaled}
 use Rattle.bounds.specs.Num.{Q, ◌⊕◌, ◌⊗◌, mag, whole, tiny, Same, Within}
 use Rattle.bounds.specs.Floats.{units, exactly}
-use Rattle.double_double.specs.declared.double_double.DoubleDouble.{DoubleDouble}
 use Rattle.bounds.proofs.Sames.{product_turned, product_grouped, spread}
 use Rattle.bounds.proofs.Near as N
 use Rattle.bounds.proofs.Computed as Comp
 use Rattle.bounds.proofs.Relative as R
 use Rattle.bounds.proofs.Scale.{Least, near_least, near_scale, split_least, tiny_size, least_units}
-use Rattle.bounds.proofs.Chain.{G, G>0, abs_to, moved, value_size}
+use Rattle.bounds.proofs.Chain.{G, G>0}
+use Rattle.bounds.proofs.AtScale.{high_least}
 use Rattle.bounds.proofs.Sizes.{sized_operand, product_good}
 use Rattle.bounds.proofs.FromMeaning.{product_rounds}
 use Rattle.bounds.proofs.ExpProduct.{ProductNear}
 use Rattle.bounds.proofs.Over.{Over, over_units, over_tiny, over_mul, over_scale, same_over}
-
-plain : (a b l : ℕ) → a * b ≡ l → a * b + 0 * l ≡ 1 * l + 0 * b
-plain a b l e = omega arith
-
-once : (z : ℤ) → pos 1 *ℤ z ≡ z
-once z = omega zs
 
 -- ---- the power
 module _ (n : ℕ) (h : n ≤ 976) where
@@ -55,7 +50,7 @@ module _ (n : ℕ) (h : n ≤ 976) where
   }
 
   pub power_same : Same (exactly two) (tiny (suc n))
-  power_same = subst (λ (z : ℤ). Same (units z) (tiny (suc n))) (sym power_is.1) (record { same = plain (2 ^ (1074 - suc n)) (2 ^ suc n) (2 ^ 1074) up_to })
+  power_same = subst (λ (z : ℤ). Same (units z) (tiny (suc n))) (sym power_is.1) (record { same = omega (arith, up_to) })
 
   -- ---- a high part of at least 1/2 is a multiple of 2 ^ (n + 1) units
   module _ (x : Float) (o : Operand x) (l : 2 ^ 1073 ≤ nat_abs (val x)) where
@@ -87,7 +82,7 @@ module _ (n : ℕ) (h : n ≤ 976) where
     pub high_exact : Same (exactly (mul binary64 x two)) (tiny (suc n) ⊗ exactly x)
     high_exact = subst (λ (z : ℤ). Same (units z) (tiny (suc n) ⊗ exactly x)) (sym times_is)
         (same_over {x = part *ℤ pos (2 ^ suc n)} {k = 2 ^ suc n * 2 ^ 1074} (mul-pos (pow_pos (suc n)) (pow_pos 1074)) (over_scale (2 ^ suc n) (mul_comm (2 ^ 1074) (2 ^ suc n)) (over_units part))
-        (subst (λ (z : ℤ). Over (tiny (suc n) ⊗ exactly x) z (2 ^ suc n * 2 ^ 1074)) (once (val x) ∙ sym part_is) (over_mul (over_tiny (suc n)) (over_units (val x)))))
+        (subst (λ (z : ℤ). Over (tiny (suc n) ⊗ exactly x) z (2 ^ suc n * 2 ^ 1074)) (omega zs ∙ sym part_is) (over_mul (over_tiny (suc n)) (over_units (val x)))))
 
 -- ---- 2 ^ -978 ≤ E ≤ 8
 pub record Between (E : Q) : Type 0 where
@@ -98,17 +93,11 @@ pub record Between (E : Q) : Type 0 where
 
 between : (E : Q) (n : ℕ) (p : zero < G * 2 ^ suc n) → n ≤ 976 → Least (G * 2 ^ suc n) E (2 ^ 256 - 2 ^ 246) → N.Abs (G * 2 ^ suc n) p E (2 ^ 259 + 0) → Between E
 between E n p h l m =
-    let (k, (e, b)) = split_least (G * 2 ^ suc n) p l in
-    record { k = k; is = e; least = least₀ k E.den (2 ^ suc n) (2 ^ 977) (mul-le-mul_left k (pow_mono {i = suc n} {j = 977} (omega arith))) b; most = most₀ E.dn E.up k E.den (2 ^ suc n) e (pow_pos (suc n)) m.le }
+    let (k, (e, b)) = split_least p l in
+    record { k = k; is = e; least = omega (arith, mul-le-mul_left k (pow_mono {i = suc n} {j = 977} (omega arith)), b); most = most₀ E.dn E.up k E.den (2 ^ suc n) e (pow_pos (suc n)) m.le }
   where
-    least₀ : (k D P T : ℕ) → k * P ≤ k * T → (2 ^ 256 - 2 ^ 246) * D ≤ k * (2 ^ 256 * P) → D ≤ k * (T * 2)
-    least₀ k D P T q h = omega arith
-
     most₀ : (d u k D P : ℕ) → u ≡ d + k → zero < P → u * (2 ^ 256 * P) ≤ d * (2 ^ 256 * P) + (2 ^ 259 + 0) * D → k ≤ 8 * D
-    most₀ d u k D P e q h = go d k D P (mul-le-mul_left k q) (rw e at h)
-      where
-        go : (d k D P : ℕ) → k * 1 ≤ k * P → (d + k) * (2 ^ 256 * P) ≤ d * (2 ^ 256 * P) + (2 ^ 259 + 0) * D → k ≤ 8 * D
-        go d k D P q h = omega arith
+    most₀ d u k D P e q h = omega (arith, mul-le-mul_left k q, rw e at h)
 
 -- ---- a pair near e, scaled: near 2 ^ -(n + 1) e
 pub record Scaled (v : DoubleDouble) (E : Q) : Type 0 where
@@ -126,48 +115,48 @@ module _ (n : ℕ) (h : n ≤ 976) (v : DoubleDouble) (A B C : Q) (P : ProductNe
   G'>0 = mul-pos G>0 (pow_pos (suc n))
 
   low_operand : Operand v.lo
-  low_operand = sized_operand v.lo P.low P.parts.lo tt
+  low_operand = sized_operand v.lo P.lo_number P.lo tt
 
   high_operand : Operand v.hi
-  high_operand = sized_operand v.hi P.high P.parts.hi tt
+  high_operand = sized_operand v.hi P.hi_number P.hi tt
 
   -- the least unit is far below
   half_unit : N.Abs G' G'>0 (tiny 1075) (2 ^ 158)
-  half_unit = tiny_size G' G'>0 1075 (2 ^ 158) (le_trans (mul-le-mul_left G (pow_mono {i = suc n} {j = 977} (omega arith))) (lit≤ tt))
+  half_unit = tiny_size 1075 (2 ^ 158) (le_trans (mul-le-mul_left G (pow_mono {i = suc n} {j = 977} (omega arith))) (lit≤ tt))
 
   -- the low part's product, before it is rounded
   product_same : N.Near G' G'>0 (exactly v.lo ⊗ exactly (two n h)) (tiny (suc n) ⊗ exactly v.lo) (0 + 0)
-  product_same = N.near_trans G' G'>0 (R.equal_product G' G'>0 (exactly v.lo) (power_same n h)) (N.near_same G' G'>0 (product_turned (exactly v.lo) (tiny (suc n))))
+  product_same = N.near_trans (R.equal_product (exactly v.lo) (power_same n h)) (N.near_same (product_turned (exactly v.lo) (tiny (suc n))))
 
   low_size : N.Abs G' G'>0 (tiny (suc n) ⊗ exactly v.lo) (2 ^ 215 + 2 ^ 211)
-  low_size = R.abs_scale G G>0 (suc n) P.parts.lo
+  low_size = R.abs_scale (suc n) P.lo
 
   low_near : N.Near G' G'>0 (exactly (mul binary64 v.lo (two n h))) (tiny (suc n) ⊗ exactly v.lo) (2 ^ 163)
-  low_near = N.near_weaken G' G'>0 (lit≤ tt) (N.near_trans G' G'>0
-      (N.within_near G' G'>0 (product_rounds v.lo (two n h) low_operand (power_operand n h)) (N.abs_add G' G'>0 (Comp.shr_ok G' G'>0 53 (N.abs_mag G' G'>0 (N.abs_near G' G'>0 low_size (N.near_sym G' G'>0 product_same)))) half_unit)) product_same)
+  low_near = N.near_weaken (lit≤ tt) (N.near_trans
+      (N.within_near (product_rounds v.lo (two n h) low_operand (power_operand n h)) (N.abs_add (Comp.shr_ok 53 (N.abs_mag (N.abs_near low_size (N.near_sym product_same)))) half_unit)) product_same)
 
   high_half : 2 ^ 1073 ≤ nat_abs (val v.hi)
-  high_half = le_of_mul-le-mul_right (le_trans (lit≤ tt) (least_units G G>0 (val v.hi) P.high_least)) G>0
+  high_half = le_of_mul-le-mul_right (le_trans (lit≤ tt) (least_units (val v.hi) (high_least v (2 ^ 255) P (lit≤ tt)))) G>0
 
   high_near : N.Near G' G'>0 (exactly (mul binary64 v.hi (two n h))) (tiny (suc n) ⊗ exactly v.hi) 0
-  high_near = N.near_same G' G'>0 (high_exact n h v.hi high_operand high_half)
+  high_near = N.near_same (high_exact n h v.hi high_operand high_half)
 
   -- the exact value, with the power in front and inside
   regrouped : N.Near G' G'>0 (tiny (suc n) ⊗ (A ⊗ B ⊗ C)) (tiny (suc n) ⊗ A ⊗ B ⊗ C) 0
-  regrouped = N.near_sym G' G'>0 (N.near_weaken G' G'>0 (lit≤ tt) (N.near_trans G' G'>0 (R.equal_factor G' G'>0 C (product_grouped (tiny (suc n)) A B)) (N.near_same G' G'>0 (product_grouped (tiny (suc n)) (A ⊗ B) C))))
+  regrouped = N.near_sym (N.near_weaken (lit≤ tt) (N.near_trans (R.equal_factor C (product_grouped (tiny (suc n)) A B)) (N.near_same (product_grouped (tiny (suc n)) (A ⊗ B) C))))
 
   least : Least G' (tiny (suc n) ⊗ A ⊗ B ⊗ C) (2 ^ 256 - 2 ^ 246)
-  least = near_least G' G'>0 {e = 0} {k = 2 ^ 256 - 2 ^ 246} (R.least_scale G G>0 (suc n) P.least) regrouped
+  least = near_least {e = 0} {k = 2 ^ 256 - 2 ^ 246} (R.least_scale (suc n) P.least) regrouped
 
   sum_near : N.Near G' G'>0 (exactly (mul binary64 v.hi (two n h)) ⊕ exactly (mul binary64 v.lo (two n h))) (tiny (suc n) ⊗ A ⊗ B ⊗ C) (2 ^ 184 + 2 ^ 181)
-  sum_near = N.near_weaken G' G'>0 (lit≤ tt) (N.near_trans G' G'>0 (N.near_add G' G'>0 high_near low_near) (N.near_trans G' G'>0 (N.near_same G' G'>0 (spread (tiny (suc n)) (exactly v.hi) (exactly v.lo)))
-      (N.near_trans G' G'>0 (near_scale G G>0 (suc n) P.near) regrouped)))
+  sum_near = N.near_weaken (lit≤ tt) (N.near_trans (N.near_add high_near low_near) (N.near_trans (N.near_same (spread (tiny (suc n)) (exactly v.hi) (exactly v.lo)))
+      (N.near_trans (near_scale (suc n) P.near) regrouped)))
 
   pub scaled : Scaled (record { lo = mul binary64 v.lo (two n h); hi = mul binary64 v.hi (two n h) }) (tiny (suc n) ⊗ A ⊗ B ⊗ C)
   scaled = record {
     low = product_good v.lo (two n h) low_operand (power_operand n h);
     high = product_good v.hi (two n h) high_operand (power_operand n h);
-    near = R.relative G' G'>0 (tiny 71) refl sum_near least (lit≤ tt);
-    low_small = R.relative_to G' G'>0 (tiny 40) refl (N.abs_near G' G'>0 low_size (N.near_sym G' G'>0 low_near)) least (lit≤ tt);
-    between = between (tiny (suc n) ⊗ A ⊗ B ⊗ C) n G'>0 h least (N.abs_near G' G'>0 (R.abs_scale G G>0 (suc n) (abs_to (2 ^ 259) (moved (value_size P.parts) P.near) tt)) regrouped);
+    near = R.relative (tiny 71) refl sum_near least (lit≤ tt);
+    low_small = R.relative_to (tiny 40) refl (N.abs_near low_size (N.near_sym low_near)) least (lit≤ tt);
+    between = between (tiny (suc n) ⊗ A ⊗ B ⊗ C) n G'>0 h least (N.abs_near (R.abs_scale (suc n) P.size) regrouped);
   }

@@ -1,26 +1,26 @@
 -- The entries of the two exponential tables: a high part of at least 1, a low part of at most 2 ^ -53. Assumes nothing.
-use Rattle.std.proofs.Common.{ℕ, ◌+◌, ◌*◌, ◌^◌, ◌<◌, Bool, ◌&&◌, T, leb, get_or, leb→le}
+use Rattle.std.proofs.Common.{◌≡◌, ℕ, ◌+◌, ◌-◌, ◌*◌, ◌^◌, ◌<◌, Bool, true, ◌&&◌, T, refl, sym, subst, leb, get_or, leb→le}
 use lib.Ieee.{binary64, of_bits}
 use lib.Ieee.Scale.{finite}
-use Rattle.ieee.specs.Meaning.{Number}
 use Rattle.double_double.specs.declared.double_double.DoubleDouble.{DoubleDouble}
 use Rattle.double_double.specs.Pairs.{bit_pair}
 use Rattle.tables.specs.Exp.{reduce_table0, reduce_table1, reduce0, reduce1}
-use Rattle.tables.proofs.Every.{every, at}
-use Rattle.bounds.specs.Num.{Q}
+use Rattle.std.specs.List.{list_all}
+use Rattle.tables.proofs.Finite.{passes_at}
+use Rattle.bounds.specs.Num.{Q, ◌⊕◌}
 use Rattle.bounds.specs.Floats.{exactly}
+use Rattle.bounds.specs.Formulas.{sum_of}
+use Rattle.bounds.proofs.Near.{abs_add, near_refl}
+use Rattle.bounds.proofs.Computed.{size_of}
 use Rattle.bounds.proofs.Computed as Comp
-use Rattle.bounds.proofs.Scale.{Least}
+use Rattle.bounds.proofs.Scale.{Least, sum_least}
 use Rattle.bounds.proofs.Sizes.{known}
-use Rattle.bounds.proofs.Chain.{G, G>0, Parts, abs_to, size_of}
-use Rattle.bounds.specs.Floats.{pair_of}
+use Rattle.bounds.proofs.Chain.{G, G>0, abs_to, least_to}
+use Rattle.bounds.proofs.AtScale.{At}
 
--- an entry with a high part from 1 to h / G and a low part of at most 2 ^ -53
-pub record Entry (p : DoubleDouble) (h : ℕ) : Type 0 where
-  pub low : Number p.lo
-  pub high : Number p.hi
-  pub parts : Parts (pair_of p.lo p.hi) h (2 ^ 203 + 1)
-  pub least : Least G (exactly p.hi) (2 ^ 256)
+-- an entry, as a number: a high part from 1 to h / G and a low part of at most 2 ^ -53
+abbrev pub Entry : DoubleDouble → ℕ → Type 0
+Entry p h = At G G>0 p (sum_of p) h (2 ^ 203 + 1) 0 (h + (2 ^ 203 + 1)) (2 ^ 256 - 2 ^ 204)
 
 -- the test of one entry
 abbrev least? : Q → Bool
@@ -43,23 +43,29 @@ entry h p t =
     let s = Comp.and_r (finite? p) (sized? h p) t in
     let l = leb (Comp.above G G>0 lo) (2 ^ 203 + 1) in
     let u = leb (Comp.above G G>0 hi) h in
+    let hs = abs_to h (size_of hi) (Comp.and_r l u (Comp.and_l (l && u) (least? hi) s)) in
+    let ls = abs_to (2 ^ 203 + 1) (size_of lo) (Comp.and_l l u (Comp.and_l (l && u) (least? hi) s)) in
+    let from : Least G hi (2 ^ 256) = record { le = leb→le (hi.dn * G + 2 ^ 256 * hi.den) (hi.up * G) (Comp.and_r (l && u) (least? hi) s) } in
     record {
-      low = known p.0 (Comp.and_l (finite (of_bits binary64 p.0)) (finite (of_bits binary64 p.1)) f);
-      high = known p.1 (Comp.and_r (finite (of_bits binary64 p.0)) (finite (of_bits binary64 p.1)) f);
-      parts = record { hi = abs_to h (size_of hi) (Comp.and_r l u (Comp.and_l (l && u) (least? hi) s)); lo = abs_to (2 ^ 203 + 1) (size_of lo) (Comp.and_l l u (Comp.and_l (l && u) (least? hi) s)) };
-      least = record { le = leb→le (hi.dn * G + 2 ^ 256 * hi.den) (hi.up * G) (Comp.and_r (l && u) (least? hi) s) };
+      lo_number = known p.0 (Comp.and_l (finite (of_bits binary64 p.0)) (finite (of_bits binary64 p.1)) f);
+      hi_number = known p.1 (Comp.and_r (finite (of_bits binary64 p.0)) (finite (of_bits binary64 p.1)) f);
+      hi = hs;
+      lo = ls;
+      near = near_refl (hi ⊕ lo);
+      size = abs_add hs ls;
+      least = sum_least {k = 2 ^ 256 - 2 ^ 204} {n = 2 ^ 203 + 1} (least_to (2 ^ 256 - 2 ^ 204 + (2 ^ 203 + 1)) from tt) ls;
     }
 
-table_0 : T (every (entry? (2 ^ 257)) reduce_table0)
+table_0 : list_all (entry? (2 ^ 257)) reduce_table0 ≡ true
 unfolding of_bits
-table_0 = tt
+table_0 = refl
 
-table_1 : T (every (entry? (2 ^ 256 + 2 ^ 250)) reduce_table1)
+table_1 : list_all (entry? (2 ^ 256 + 2 ^ 250)) reduce_table1 ≡ true
 unfolding of_bits
-table_1 = tt
+table_1 = refl
 
 pub entry_0 : (i : ℕ) → i < 64 → Entry (reduce0 i) (2 ^ 257)
-entry_0 i h = entry (2 ^ 257) (get_or reduce_table0 i (0, 0)) (at (entry? (2 ^ 257)) reduce_table0 (0, 0) table_0 i h)
+entry_0 i h = entry (2 ^ 257) (get_or reduce_table0 i (0, 0)) (subst T (sym (passes_at (entry? (2 ^ 257)) reduce_table0 i (0, 0) h table_0)) tt)
 
 pub entry_1 : (i : ℕ) → i < 64 → Entry (reduce1 i) (2 ^ 256 + 2 ^ 250)
-entry_1 i h = entry (2 ^ 256 + 2 ^ 250) (get_or reduce_table1 i (0, 0)) (at (entry? (2 ^ 256 + 2 ^ 250)) reduce_table1 (0, 0) table_1 i h)
+entry_1 i h = entry (2 ^ 256 + 2 ^ 250) (get_or reduce_table1 i (0, 0)) (subst T (sym (passes_at (entry? (2 ^ 256 + 2 ^ 250)) reduce_table1 i (0, 0) h table_1)) tt)

@@ -3,17 +3,17 @@ use Rattle.std.proofs.Common.{ℕ, Bool, false, T, List, [], ◌∷◌, get_or}
 use lib.Ieee.Scale.{finite}
 use Rattle.double_double.specs.declared.double_double.DoubleDouble.{DoubleDouble}
 use Rattle.double_double.specs.Ops.{Ops, Meaning}
-use Rattle.tables.specs.Erfc.{fast_rows, fast_number}
 use Rattle.double_double.specs.Pairs.{fast_two_sum}
+use Rattle.tables.specs.Erfc.{fast_rows, fast_number}
 use Rattle.erfc.specs.Horner.{plus, horner}
 use Rattle.erfc.specs.Asymptotics.{fast_term, fast_polynomial}
 use Rattle.bounds.specs.Num.{Q}
 use Rattle.bounds.specs.Formulas.{polynomial, row_coefficients}
 use Rattle.bounds.proofs.Computed as Comp
-use Rattle.bounds.proofs.FromMeaning.{madd_means, number_means}
+use Rattle.bounds.proofs.FromMeaning.{number_means}
 use Rattle.bounds.proofs.Sizes.{known}
-use Rattle.bounds.proofs.Rules.{conj, pick, tabled, adds_one}
-use Rattle.bounds.proofs.Loop.{State, Holds, Rule, above, modest, times, added, safe, added_holds, added_both, safe_both, both_holds, fma_state, fma_one, times_one, one_holds, ready, operand, times_ready, bounds_of, tests, loop_holds, leading, leading_one}
+use Rattle.bounds.proofs.Rules.{conj, pick, adds_one}
+use Rattle.bounds.proofs.Loop.{State, Holds, Rule, above, modest, times, added, safe, added_holds, added_both, safe_both, both_holds, head, head_one, fma_state, madd_one, times_one, one_holds, ready, operand, times_ready, bounds_of, tests, loop_holds, leading, leading_one}
 
 -- ---- the loop's rule
 abbrev fast_rule : (row : ℕ) → Rule (fast_term row)
@@ -21,10 +21,10 @@ fast_rule row = adds_one false (get_or fast_rows row []) 2
 
 -- ---- the bounds of a row, for u with the bounds A
 abbrev second : ℕ → State → State
-second row A = fma_state (leading (fast_number row 12)) A (fast_number row 11)
+second row A = fma_state (leading (fast_number row 12)) (head A) (fast_number row 11)
 
 abbrev third : ℕ → State → State
-third row A = fma_state (second row A) A (fast_number row 10)
+third row A = fma_state (second row A) (head A) (fast_number row 10)
 
 abbrev fourth : ℕ → State → State
 fourth row A = added (times_one (third row A) A) (fast_number row 9)
@@ -47,15 +47,14 @@ module _ {S : Type 0} (o : Ops S) (m : Meaning o) where
   fast_holds s row A u U k t =
       let tests = fast_tests row A in
       let a = pick 0 tests t in
-      let uh = operand u.hi k.hi_number k.parts.hi (Comp.and_l (modest A.high) (modest A.low) a) in
+      let b = Comp.and_l (modest A.high) (modest A.low) a in
+      let uh = operand u.hi k.hi_number k.parts.hi b in
       let ul = operand u.lo k.lo_number k.parts.lo (Comp.and_r (modest A.high) (modest A.low) a) in
       let h₁ = leading_one (fast_number row 12) U (known _ (pick 1 tests t)) k in
       let r₁ = o.multiply_add s (fast_number row 12) u.hi (fast_number row 11) in
-      let w₁ = m.multiply_add s (fast_number row 12) u.hi (fast_number row 11) (tabled _ (pick 1 tests t) (pick 2 tests t)) uh (tabled _ (pick 3 tests t) (pick 4 tests t)) in
-      let h₂ = fma_one (fast_number row 11) (fast_number row 12) u r₁.1 h₁ k (madd_means _ _ _ _ w₁) w₁.answer in
+      let h₂ = madd_one o m s (fast_number row 11) (fast_number row 12) u.hi h₁ (pick 2 tests t) (head_one u k) b (known _ (pick 3 tests t)) (pick 4 tests t) in
       let r₂ = o.multiply_add r₁.0 r₁.1 u.hi (fast_number row 10) in
-      let w₂ = m.multiply_add r₁.0 r₁.1 u.hi (fast_number row 10) (operand r₁.1 h₂.number h₂.high (pick 7 tests t)) uh (tabled _ (pick 5 tests t) (pick 6 tests t)) in
-      let h₃ = fma_one (fast_number row 10) r₁.1 u r₂.1 h₂ k (madd_means _ _ _ _ w₂) w₂.answer in
+      let h₃ = madd_one o m r₁.0 (fast_number row 10) r₁.1 u.hi h₂ (pick 7 tests t) (head_one u k) b (known _ (pick 5 tests t)) (pick 6 tests t) in
       let v = o.pair_times_number r₂.0 u r₂.1 in
       let w₃ = m.pair_times_number r₂.0 u r₂.1 ul uh (operand r₂.1 h₃.number h₃.high (pick 8 tests t)) in
       let h₄ = one_holds r₂.1 u v.1 h₃ k (number_means _ _ _ _ _ w₃) w₃.low w₃.high in

@@ -1,5 +1,5 @@
--- The six fast polynomials keep one bound: a test over the table. Assumes nothing.
-use Rattle.std.proofs.Common.{ℕ, ◌<◌, Bool, ◌&&◌, T}
+-- The six fast polynomials keep one bound, and are neither small nor large: two tests over the table. Assumes nothing.
+use Rattle.std.proofs.Common.{ℕ, ◌*◌, ◌/◌, ◌^◌, ◌<◌, T, lit≤}
 use lib.Ieee.{of_bits}
 use Rattle.double_double.specs.declared.double_double.DoubleDouble.{DoubleDouble}
 use Rattle.double_double.specs.Ops.{Ops, Meaning}
@@ -8,35 +8,37 @@ use Rattle.erfc.specs.Asymptotics.{fast_polynomial}
 use Rattle.bounds.specs.Num.{Q, Within}
 use Rattle.bounds.specs.Formulas.{sum_of, polynomial, row_coefficients}
 use Rattle.bounds.specs.Polynomials.{NearSquare, fast_limit}
-use Rattle.bounds.proofs.Computed as Comp
-use Rattle.bounds.proofs.Loop.{State, Holds}
-use Rattle.bounds.proofs.Rules.{conj}
+use Rattle.bounds.proofs.Loop.{State}
+use Rattle.bounds.proofs.AtScale.{At}
+use Rattle.bounds.proofs.Chain.{G, G>0}
+use Rattle.bounds.proofs.Rows.{Rows, below, row_passes, row_fine, row_within, row_bounded}
 use Rattle.bounds.proofs.FastPoly.{fast_tests, fast_bounds, fast_holds}
-use Rattle.bounds.proofs.Rows.{below, at_row, within_limit, limited, argument, holds_argument}
 
--- the bounds of u, and of the polynomial's pair
-abbrev bounds_in : ℕ → State
-bounds_in row = argument fast_thresholds row
+abbrev table : Rows
+table = record { thresholds = fast_thresholds; coefficients = row_coefficients; bounds = fast_bounds; tests = fast_tests }
 
-abbrev pub bounds_out : ℕ → State
-bounds_out row = fast_bounds row (bounds_in row)
-
-abbrev tests : ℕ → Bool
-tests row = conj (fast_tests row (bounds_in row))
-
-abbrev limit : ℕ → Bool
-limit row = within_limit fast_limit (bounds_out row).error
-
-abbrev passes : ℕ → Bool
-passes row = tests row && limit row
-
-table_passes : T (below passes 6)
+table_passes : T (below (row_passes table fast_limit) 6)
 unfolding of_bits
 table_passes = tt
 
-module _ {S : Type 0} (o : Ops S) (m : Meaning o) where
-  pub row_holds : (s : S) (row : ℕ) (u : DoubleDouble) (U : Q) → row < 6 → NearSquare fast_thresholds row u U → Holds (bounds_out row) (fast_polynomial o s row u).1 (polynomial U (row_coefficients row))
-  row_holds s row u U r g = fast_holds o m s row (bounds_in row) u U (holds_argument fast_thresholds row u U g) (Comp.and_l (tests row) (limit row) (at_row passes 6 row r table_passes))
+-- 0.52 and 0.61
+abbrev pub floor : ℕ
+floor = 52 * 2 ^ 256 / 100
 
+abbrev pub ceiling : ℕ
+ceiling = 61 * 2 ^ 256 / 100
+
+-- what is shown of each row: the low part at most 2 ^ -48, the pair within 23 / 2 ^ 73 of the polynomial
+abbrev row_bounds : State
+row_bounds = record { high = ceiling; low = 2 ^ 208; error = 23 * 2 ^ 183; size = ceiling }
+
+table_fine : T (below (row_fine table row_bounds floor) 6)
+unfolding of_bits
+table_fine = tt
+
+module _ {S : Type 0} (o : Ops S) (m : Meaning o) where
   pub polynomial_near : (s : S) (row : ℕ) (u : DoubleDouble) (U : Q) → row < 6 → NearSquare fast_thresholds row u U → Within (sum_of (fast_polynomial o s row u).1) (polynomial U (row_coefficients row)) fast_limit
-  polynomial_near s row u U r g = limited fast_limit (bounds_out row).error (row_holds s row u U r g).near (Comp.and_r (tests row) (limit row) (at_row passes 6 row r table_passes))
+  polynomial_near = row_within table (fast_polynomial o) (fast_holds o m) fast_limit 6 table_passes
+
+  pub row_near : (s : S) (row : ℕ) (u : DoubleDouble) (U : Q) → row < 6 → NearSquare fast_thresholds row u U → At G G>0 (fast_polynomial o s row u).1 (polynomial U (row_coefficients row)) row_bounds.high row_bounds.low row_bounds.error row_bounds.size floor
+  row_near = row_bounded table (fast_polynomial o) (fast_holds o m) fast_limit 6 table_passes row_bounds floor 6 (lit≤ tt) table_fine

@@ -1,5 +1,6 @@
 -- What an arithmetic means, and what IEEE 754 operations give, as relations between exact numbers. Assumes nothing.
 use Rattle.std.proofs.Common.{◌≡◌, ℕ, zero, suc, ◌+◌, ◌*◌, ◌^◌, ◌<◌, ◌≤◌, ℤ, pos, ◌+ℤ◌, ◌-ℤ◌, ◌*ℤ◌, nat_abs, sym, refl, ap, ◌∙◌, subst, mul_comm, mul-pos, arith, lit<, pow_pos}
+use Rattle.std.proofs.Math.IntN.{+ℤ_idr, +ℤ_comm}
 use lib.Ieee.{Float, binary64, add, sub, mul}
 use Rattle.ieee.specs.Val.{val, rq}
 use Rattle.ieee.specs.Pairs.{Good, SumOf}
@@ -10,50 +11,39 @@ use Rattle.ieee.proofs.Floats.{good_add, good_sub}
 use Rattle.ieee.proofs.Products.{good_times}
 use Rattle.ieee.proofs.Highs.{good_operand}
 use Rattle.ieee.proofs.PairTimes.{rz_error}
-use Rattle.ieee.proofs.Scaled.{sub_scaled}
 use Rattle.bounds.specs.Num.{Q, ◌⊕◌, ◌⊗◌, mag, tiny, Within}
 use Rattle.bounds.specs.Steps.{Pair, PairMul, ExactAdd, Fma, Rounded}
-use Rattle.bounds.specs.Floats.{pair_of, single}
-use Rattle.bounds.specs.Floats.{exactly, minus, units}
-use Rattle.bounds.proofs.Over.{Over, over_units, over_tiny, over_zero, over_minus, over_add, over_mul, over_mag, over_scale, within_over, same_over}
+use Rattle.bounds.specs.Floats.{pair_of, single, exactly, minus, units}
+use Rattle.bounds.proofs.Over.{Over, over_units, over_tiny, over_zero, over_minus, over_add, over_mul, over_mag, over_scale, within_over, same_over, scaled_abs}
 
 -- ---- the bounds between integers, brought to one unit; l is 2 ^ 1074, kept a variable since omega refuses large numerals
 -- |x l m - y m| = m |x l - y|
 scaled : (x y : ℤ) (l m : ℕ) → nat_abs (x *ℤ pos (l * m) -ℤ y *ℤ pos m) ≡ m * nat_abs (x *ℤ pos l -ℤ y)
-scaled x y l m = ap (λ (z : ℤ). nat_abs (z -ℤ y *ℤ pos m)) (sym (massoc x (pos l) (pos m))) ∙ ap nat_abs (sub_scaled (x *ℤ pos l) y (pos m)) ∙ abs_mul (x *ℤ pos l -ℤ y) (pos m) ∙ mul_comm (nat_abs (x *ℤ pos l -ℤ y)) m
+scaled x y l m = ap (λ (z : ℤ). nat_abs (z -ℤ y *ℤ pos m)) (sym (massoc x (pos l) (pos m))) ∙ scaled_abs (x *ℤ pos l) y m ∙ mul_comm (nat_abs (x *ℤ pos l -ℤ y)) m
 
 half₀ : (s z : ℤ) (l : ℕ) → 2 ^ 53 * nat_abs (s *ℤ pos l -ℤ z) ≤ nat_abs z + 2 ^ 52 * l → nat_abs (s *ℤ pos (l * 2 ^ 53) -ℤ z *ℤ pos (2 ^ 53)) ≤ 1 * nat_abs z + 1 * (2 ^ 52 * l)
-half₀ s z l h = rw (scaled s z l (2 ^ 53)) (go (nat_abs (s *ℤ pos l -ℤ z)) (nat_abs z) l h)
-  where
-    go : (d n l : ℕ) → 2 ^ 53 * d ≤ n + 2 ^ 52 * l → 2 ^ 53 * d ≤ 1 * n + 1 * (2 ^ 52 * l)
-    go d n l h = omega arith
+half₀ s z l h = rw (scaled s z l (2 ^ 53)) (omega (arith, h))
 
 -- s is z / 2 ^ 1074 rounded: the error is 2 ^ -53 of it and half a unit, 2 ^ -1075
-pub nearest_within : (s z : ℤ) (a b : Q) → Over a s (2 ^ 1074) → Over b z (2 ^ 1074 * 2 ^ 1074) → s ≡ rq z (2 ^ 1074) → Within a b (tiny 53 ⊗ mag b ⊕ tiny 1075)
+nearest_within : (s z : ℤ) (a b : Q) → Over a s (2 ^ 1074) → Over b z (2 ^ 1074 * 2 ^ 1074) → s ≡ rq z (2 ^ 1074) → Within a b (tiny 53 ⊗ mag b ⊕ tiny 1075)
 nearest_within s z a b A B e =
     within_over {x = s *ℤ pos (2 ^ 1074 * 2 ^ 53)} {y = z *ℤ pos (2 ^ 53)} {e = 1 * nat_abs z + 1 * (2 ^ 52 * 2 ^ 1074)} {k = 2 ^ 2201} (pow_pos 2201)
     (over_scale (2 ^ 1074 * 2 ^ 53) refl A) (over_scale (2 ^ 53) refl B) (over_add (over_mul (over_tiny 53) (over_mag B)) (over_scale (2 ^ 52 * 2 ^ 1074) refl (over_tiny 1075)))
     (half₀ s z (2 ^ 1074) (subst (λ (t : ℤ). 2 ^ 53 * nat_abs (t *ℤ pos (2 ^ 1074) -ℤ z) ≤ nat_abs z + 2 ^ 52 * 2 ^ 1074) (sym e) (rq_error z (2 ^ 1074) (pow_pos 1074))))
 
 -- s and z over one k, and s within 2 ^ -53 of z: no half unit
-pub rounded_within : (s z : ℤ) (a b : Q) (k : ℕ) → zero < k → Over a s k → Over b z k → 2 ^ 53 * nat_abs (s -ℤ z) ≤ nat_abs z → Within a b (tiny 53 ⊗ mag b)
+rounded_within : (s z : ℤ) (a b : Q) (k : ℕ) → zero < k → Over a s k → Over b z k → 2 ^ 53 * nat_abs (s -ℤ z) ≤ nat_abs z → Within a b (tiny 53 ⊗ mag b)
 rounded_within s z a b k K A B h =
     within_over {x = s *ℤ pos (2 ^ 53)} {y = z *ℤ pos (2 ^ 53)} {e = 1 * nat_abs z} {k = 2 ^ 53 * k} (mul-pos (pow_pos 53) K)
     (over_scale (2 ^ 53) (mul_comm k (2 ^ 53)) A) (over_scale (2 ^ 53) (mul_comm k (2 ^ 53)) B) (over_mul (over_tiny 53) (over_mag B))
-    (rw (sub_scaled s z (pos (2 ^ 53)), abs_mul (s -ℤ z) (pos (2 ^ 53))) (go (nat_abs (s -ℤ z)) (nat_abs z) h))
-  where
-    go : (d n : ℕ) → 2 ^ 53 * d ≤ n → d * 2 ^ 53 ≤ 1 * n
-    go d n h = omega arith
+    (rw (scaled_abs s z (2 ^ 53)) (omega (arith, h)))
 
 pairs₀ : (x y : ℤ) (l p q r s : ℕ) → 2 ^ 104 * nat_abs (x *ℤ pos l -ℤ y) ≤ 2 ^ 104 * p + 2 ^ 54 * (q + r) + s + 2 ^ 108 * l
     → nat_abs (x *ℤ pos (l * 2 ^ 104) -ℤ y *ℤ pos (2 ^ 104)) ≤ p * 2 ^ 104 + 1 * (q + r) * 2 ^ 54 + 1 * s + 1 * (2 ^ 108 * l)
-pairs₀ x y l p q r s h = rw (scaled x y l (2 ^ 104)) (go (nat_abs (x *ℤ pos l -ℤ y)) l p q r s h)
-  where
-    go : (d l p q r s : ℕ) → 2 ^ 104 * d ≤ 2 ^ 104 * p + 2 ^ 54 * (q + r) + s + 2 ^ 108 * l → 2 ^ 104 * d ≤ p * 2 ^ 104 + 1 * (q + r) * 2 ^ 54 + 1 * s + 1 * (2 ^ 108 * l)
-    go d l p q r s h = omega arith
+pairs₀ x y l p q r s h = rw (scaled x y l (2 ^ 104)) (omega (arith, h))
 
 -- pair times pair, where each part is an integer over 2 ^ 1074; a zero part too, so it serves for numbers
-pub pair_mul : (al ah bl bh lo hi : ℤ) (a b : Pair) → Over a.lo al (2 ^ 1074) → Over a.hi ah (2 ^ 1074) → Over b.lo bl (2 ^ 1074) → Over b.hi bh (2 ^ 1074) → hi ≡ rq (ah *ℤ bh) (2 ^ 1074)
+pair_mul : (al ah bl bh lo hi : ℤ) (a b : Pair) → Over a.lo al (2 ^ 1074) → Over a.hi ah (2 ^ 1074) → Over b.lo bl (2 ^ 1074) → Over b.hi bh (2 ^ 1074) → hi ≡ rq (ah *ℤ bh) (2 ^ 1074)
     → 2 ^ 104 * nat_abs (fine (hi +ℤ lo) -ℤ (ah +ℤ al) *ℤ (bh +ℤ bl)) ≤ 2 ^ 104 * nat_abs (al *ℤ bl) + 2 ^ 54 * (nat_abs (ah *ℤ bl) + nat_abs (al *ℤ bh)) + nat_abs (ah *ℤ bh) + 2 ^ 108 * 2 ^ 1074
     → PairMul a b (record { hi = units hi; lo = units lo })
 pair_mul al ah bl bh lo hi a b A A' B B' e h = record {
@@ -69,40 +59,22 @@ pair_mul al ah bl bh lo hi a b A A' B B' e h = record {
 }
 
 -- a number is a pair with a zero
-zero_added : (z : ℤ) → z +ℤ pos 0 ≡ z
-zero_added z = omega zs
-
 number₀ : (al ah b x : ℤ) (l : ℕ) → 2 ^ 104 * nat_abs (x -ℤ (ah +ℤ al) *ℤ b) ≤ 2 ^ 54 * nat_abs (al *ℤ b) + nat_abs (ah *ℤ b) + 2 ^ 108 * l
     → 2 ^ 104 * nat_abs (x -ℤ (ah +ℤ al) *ℤ (b +ℤ pos 0)) ≤ 2 ^ 104 * nat_abs (al *ℤ pos 0) + 2 ^ 54 * (nat_abs (ah *ℤ pos 0) + nat_abs (al *ℤ b)) + nat_abs (ah *ℤ b) + 2 ^ 108 * l
-number₀ al ah b x l h = rw (zero_added b) (go (nat_abs (x -ℤ (ah +ℤ al) *ℤ b)) (nat_abs (al *ℤ pos 0)) (nat_abs (ah *ℤ pos 0)) (nat_abs (al *ℤ b)) (nat_abs (ah *ℤ b)) l h)
-  where
-    go : (d p q r s l : ℕ) → 2 ^ 104 * d ≤ 2 ^ 54 * r + s + 2 ^ 108 * l → 2 ^ 104 * d ≤ 2 ^ 104 * p + 2 ^ 54 * (q + r) + s + 2 ^ 108 * l
-    go d p q r s l h = omega arith
+number₀ al ah b x l h = rw (+ℤ_idr b) (omega (arith, h))
 
 product₀ : (a b x : ℤ) (l : ℕ) → 2 ^ 104 * nat_abs (x -ℤ a *ℤ b) ≤ nat_abs (a *ℤ b) + 2 ^ 108 * l → 2 ^ 104 * nat_abs (x -ℤ (a +ℤ pos 0) *ℤ b) ≤ 2 ^ 54 * nat_abs (pos 0 *ℤ b) + nat_abs (a *ℤ b) + 2 ^ 108 * l
-product₀ a b x l h = rw (zero_added a) (go (nat_abs (x -ℤ a *ℤ b)) (nat_abs (pos 0 *ℤ b)) (nat_abs (a *ℤ b)) l h)
-  where
-    go : (d r s l : ℕ) → 2 ^ 104 * d ≤ s + 2 ^ 108 * l → 2 ^ 104 * d ≤ 2 ^ 54 * r + s + 2 ^ 108 * l
-    go d r s l h = omega arith
-
-pub swapped : (x y : ℤ) → x +ℤ y ≡ y +ℤ x
-swapped x y = omega zs
+product₀ a b x l h = rw (+ℤ_idr a) (omega (arith, h))
 
 -- multiply-add: p is a b, and c is in its units
 madd₀ : (r p c : ℤ) (l : ℕ) → 2 ^ 103 * nat_abs (r *ℤ pos l -ℤ (p +ℤ c)) ≤ 2 ^ 50 * nat_abs (p +ℤ c) + (nat_abs p + nat_abs c) + 2 ^ 107 * l
     → nat_abs (r *ℤ pos (l * 2 ^ 103) -ℤ (c +ℤ p) *ℤ pos (2 ^ 103)) ≤ 1 * nat_abs (c +ℤ p) * 2 ^ 50 + 1 * (nat_abs p + nat_abs c) + 1 * (2 ^ 107 * l)
-madd₀ r p c l h = rw (swapped c p, scaled r (p +ℤ c) l (2 ^ 103)) (go (nat_abs (r *ℤ pos l -ℤ (p +ℤ c))) (nat_abs (p +ℤ c)) (nat_abs p) (nat_abs c) l h)
-  where
-    go : (d s p c l : ℕ) → 2 ^ 103 * d ≤ 2 ^ 50 * s + (p + c) + 2 ^ 107 * l → 2 ^ 103 * d ≤ 1 * s * 2 ^ 50 + 1 * (p + c) + 1 * (2 ^ 107 * l)
-    go d s p c l h = omega arith
+madd₀ r p c l h = rw (+ℤ_comm c p, scaled r (p +ℤ c) l (2 ^ 103)) (omega (arith, h))
 
 -- the low part of an exact sum is the rounding's error
 low₀ : (hi lo z : ℤ) → hi +ℤ lo ≡ z → 2 ^ 53 * nat_abs (hi -ℤ z) ≤ nat_abs z → nat_abs (lo *ℤ pos (2 ^ 53) -ℤ pos 0) ≤ 1 * nat_abs z
-low₀ hi lo z e h = rw (zero_added (lo *ℤ pos (2 ^ 53)), abs_mul lo (pos (2 ^ 53))) (go (nat_abs lo) (nat_abs (hi -ℤ z)) (nat_abs z) (other hi lo z e) h)
+low₀ hi lo z e h = rw (+ℤ_idr (lo *ℤ pos (2 ^ 53)), abs_mul lo (pos (2 ^ 53))) (go (nat_abs lo) (nat_abs (hi -ℤ z)) (nat_abs z) (omega (zs, e)) h)
   where
-    other : (hi lo z : ℤ) → hi +ℤ lo ≡ z → nat_abs lo ≡ nat_abs (hi -ℤ z)
-    other hi lo z e = omega zs
-
     go : (n d m : ℕ) → n ≡ d → 2 ^ 53 * d ≤ m → n * 2 ^ 53 ≤ 1 * m
     go n d m e h = omega arith
 

@@ -47,7 +47,7 @@ scaled_is (fin s m e) i n g h = subst (λ (x : Float). IsNumber x (rq (val (fin 
 pub grown : (a p q : ℕ) → a ≤ p → 0 < q → a ≤ p * q
 grown a p q h Q = omega (arith, mul-le-mul_left p Q)
 
-pub times_down : (x y : Float) (n i : ℕ) → Number x → T (fits binary64 y) → HasValue y false 1 (2 ^ n) → n ≤ 1074 → i < 2098 → nat_abs (val x) ≤ 2 ^ i → IsNumber (mul binary64 x y) (rq (val x) (2 ^ n))
+times_down : (x y : Float) (n i : ℕ) → Number x → T (fits binary64 y) → HasValue y false 1 (2 ^ n) → n ≤ 1074 → i < 2098 → nat_abs (val x) ≤ 2 ^ i → IsNumber (mul binary64 x y) (rq (val x) (2 ^ n))
 times_down x y n i X f v h I b =
     let w = of_value y false (2 ^ (1074 - n)) (rescaled y false 1 (2 ^ n) (2 ^ (1074 - n)) (2 ^ 1074) (pow_pos n) v (joined ∙ sym (one-mul (2 ^ 1074)))) in
     let e : val x *ℤ val y *ℤ pos (2 ^ n) ≡ val x *ℤ pos (2 ^ 1074) = ap (λ (z : ℤ). val x *ℤ z *ℤ pos (2 ^ n)) w.1 ∙ massoc (val x) (pos (2 ^ (1074 - n))) (pos (2 ^ n)) ∙ ap (λ (z : ℕ). val x *ℤ pos z) joined in
@@ -68,9 +68,6 @@ pub record Halved (d : Float) (n : ℕ) : Type 0 where
   pub is : IsNumber (ldexp_of d (negsuc n)) c
   pub near : 2 ^ 50 * (2 * nat_abs (c *ℤ pos (2 ^ suc n) -ℤ val d)) ≤ (2 ^ 50 + 2) * 2 ^ suc n
 
-once_near : (p : ℕ) (c z : ℤ) → nat_abs z ≤ p → 2 ^ 53 * nat_abs (c *ℤ pos p -ℤ z) ≤ nat_abs z + 2 ^ 52 * p → 2 ^ 50 * (2 * nat_abs (c *ℤ pos p -ℤ z)) ≤ (2 ^ 50 + 2) * p
-once_near p c z h k = omega (arith, h, k)
-
 -- one product
 one_is : (d : Float) (n : ℕ) → n ≤ 1021 → ldexp_of d (negsuc n) ≡ mul binary64 d (power (negsuc n))
 unfolding ldexp_of
@@ -80,7 +77,7 @@ one_product : (d : Float) (n : ℕ) → Number d → n ≤ 1021 → nat_abs (val
 one_product d n N g h = record {
   c = rq (val d) (2 ^ suc n);
   is = subst (λ (x : Float). IsNumber x (rq (val d) (2 ^ suc n))) (sym (one_is d n g)) (times_down d (power (negsuc n)) (suc n) (suc n) N (of_bits-fits binary64 _) (power_down n g) (omega arith) (omega arith) h);
-  near = once_near (2 ^ suc n) (rq (val d) (2 ^ suc n)) (val d) h (rq_error (val d) (2 ^ suc n) (pow_pos (suc n)));
+  near = omega (arith, h, rq_error (val d) (2 ^ suc n) (pow_pos (suc n)));
 }
 
 -- a step down and one product
@@ -92,11 +89,8 @@ twice_near p q u c x z e s h k i j =
     let f : nat_abs (c *ℤ pos u -ℤ x) * q ≡ nat_abs (c *ℤ pos p -ℤ x *ℤ pos q) = sym (abs_mul (c *ℤ pos u -ℤ x) (pos q)) ∙ ap nat_abs (spread c x u q ∙ ap (λ (t : ℕ). c *ℤ pos t -ℤ x *ℤ pos q) (sym e)) in
     let j₃ : 2 ^ 53 * nat_abs (c *ℤ pos p -ℤ x *ℤ pos q) ≤ (2 ^ 52 + 1) * p = subst (λ (t : ℕ). 2 ^ 53 * t ≤ (2 ^ 52 + 1) * p) f j₂ in
     let i₁ : 2 ^ 53 * nat_abs (x *ℤ pos q -ℤ z) ≤ 2 * p = omega (arith, i, h, s) in
-    through (c *ℤ pos p) (x *ℤ pos q) z p j₃ i₁
+    omega (zs, j₃, i₁)
   where
-    through : (a b z : ℤ) (p : ℕ) → 2 ^ 53 * nat_abs (a -ℤ b) ≤ (2 ^ 52 + 1) * p → 2 ^ 53 * nat_abs (b -ℤ z) ≤ 2 * p → 2 ^ 50 * (2 * nat_abs (a -ℤ z)) ≤ (2 ^ 50 + 2) * p
-    through a b z p h k = omega (zs, h, k)
-
     spread : (c x : ℤ) (u q : ℕ) → (c *ℤ pos u -ℤ x) *ℤ pos q ≡ c *ℤ pos (u * q) -ℤ x *ℤ pos q
     spread c x u q = dist (c *ℤ pos u) (neg_ℤ x) (pos q) ∙ ap (λ (t : ℤ). t +ℤ neg_ℤ x *ℤ pos q) (massoc c (pos u) (pos q)) ∙ ap (λ (t : ℤ). c *ℤ pos (u * q) +ℤ t) (neg_mul x (pos q))
 

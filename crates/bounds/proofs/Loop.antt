@@ -7,20 +7,21 @@ use Rattle.ieee.specs.Pairs.{Good, SumOf}
 use Rattle.ieee.specs.Meaning.{Number, Operand}
 use Rattle.ieee.proofs.Floats.{quick_add, full_add, good_add}
 use Rattle.double_double.specs.declared.double_double.DoubleDouble.{DoubleDouble}
-use Rattle.double_double.specs.Pairs.{fast_two_sum, two_sum}
+use Rattle.double_double.specs.Pairs.{fast_two_sum, two_sum, number_plus_pair}
 use Rattle.double_double.specs.Ops.{Ops, Meaning}
 use Rattle.erfc.specs.Horner.{plus, plus_both, horner}
 use Rattle.bounds.specs.Num.{Q, ◌⊕◌, ◌⊗◌, mag, whole}
-use Rattle.bounds.specs.Steps.{Pair, AtMost, PairMul, ExactAdd, Fma}
-use Rattle.bounds.specs.Floats.{pair_of}
-use Rattle.bounds.specs.Floats.{exactly, units}
+use Rattle.bounds.specs.Steps.{Pair, AtMost, PairMul, ExactAdd}
+use Rattle.bounds.specs.Floats.{pair_of, exactly, units}
 use Rattle.bounds.specs.Formulas.{sum_of}
+use Rattle.bounds.proofs.Near.{abs_add, abs_near, near_add, near_refl, near_sym}
+use Rattle.bounds.proofs.Computed.{kept, product_size, size_of}
 use Rattle.bounds.proofs.Near as N
 use Rattle.bounds.proofs.Computed as Comp
 use Rattle.bounds.proofs.Chain as C
-use Rattle.bounds.proofs.Chain.{G, G>0, Near, Abs, Parts, mul_g, shr, abs_to, ◌then◌, one_plus, sym_near, moved, sum_size, product_size, size_of, product_near, turned_product, kept, nothing, no_size, grouped, swap, rounded_near, exact_near, exact_low, exact_high, value_size, pair_near, pair_parts, pair_e, high_e}
-use Rattle.bounds.proofs.Sizes.{sized_good, sized_operand}
-use Rattle.bounds.proofs.FromMeaning.{sum_means, exact_sum, pairs_mean}
+use Rattle.bounds.proofs.Chain.{G, G>0, Near, Abs, Parts, mul_g, shr, abs_to, ◌then◌, one_plus, product_near, turned, turned_product, nothing, no_size, grouped, swap, rounded_near, exact_near, exact_low, exact_high, value_size, pair_near, pair_parts, pair_e, high_e}
+use Rattle.bounds.proofs.Sizes.{sized_good, sized_operand, good_number}
+use Rattle.bounds.proofs.FromMeaning.{madd_means, sum_means, exact_sum, pairs_mean}
 
 -- |hi| ≤ high / G, |lo| ≤ low / G, the pair within error / G of a number of at most size / G
 pub record State : Type 0 where
@@ -85,13 +86,22 @@ good x n h t = sized_good x n (abs_to (2 ^ 600) h t) 1474 tt
 pub operand : (x : Float) {m : ℕ} → Number x → Abs (exactly x) m → T (modest m) → Operand x
 operand x n h t = sized_operand x n (abs_to (2 ^ 600) h t) tt
 
-pub times_holds : {S A : State} {z u : DoubleDouble} (v : DoubleDouble) {Z U : Q} → Holds S z Z → Holds A u U → PairMul (pair z) (pair u) (pair v) → Number v.lo → Number v.hi → Holds (times S A) v (Z ⊗ U)
+times_holds : {S A : State} {z u : DoubleDouble} (v : DoubleDouble) {Z U : Q} → Holds S z Z → Holds A u U → PairMul (pair z) (pair u) (pair v) → Number v.lo → Number v.hi → Holds (times S A) v (Z ⊗ U)
 times_holds v h k m l n = record {
   lo_number = l;
   hi_number = n;
   parts = pair_parts h.parts k.parts m;
   near = pair_near h.parts k.parts m then product_near h.near (value_size k.parts) k.near h.size;
   size = product_size h.size k.size;
+}
+
+pub turned_holds : {S : State} {v : DoubleDouble} (Z U : Q) → Holds S v (Z ⊗ U) → Holds S v (U ⊗ Z)
+turned_holds Z U h = record {
+  lo_number = h.lo_number;
+  hi_number = h.hi_number;
+  parts = h.parts;
+  near = N.near_weaken (omega arith) (h.near then turned_product Z U);
+  size = Comp.abs_weaken (omega arith) (abs_near h.size (turned_product Z U));
 }
 
 -- |v| ≤ |c| between f64 numbers
@@ -109,7 +119,7 @@ sum_by false c v = fast_two_sum c v
 
 sum_of_lem : (b : Bool) (c v : Float) (V : State) → Good c 1474 → Good v 1474 → Abs (exactly v) V.high → T (leads b V c) → SumOf c v (sum_by b c v).lo (sum_by b c v).hi
 sum_of_lem true c v V gc gv h t = full_add c v 1474 gc gv (lit< tt)
-sum_of_lem false c v V gc gv h t = quick_add c v 1474 gc gv (inr (inl (smaller v c (Comp.below_ok G G>0 h (leb→le V.high (Comp.below G G>0 (exactly c)) t))))) (lit< tt)
+sum_of_lem false c v V gc gv h t = quick_add c v 1474 gc gv (inr (inl (smaller v c (Comp.below_ok h (leb→le V.high (Comp.below G G>0 (exactly c)) t))))) (lit< tt)
 
 lo_fits : (b : Bool) (c v : Float) → SumOf c v (sum_by b c v).lo (sum_by b c v).hi → Number (sum_by b c v).lo
 lo_fits true c v s = record { holds = add-fits binary64 _ _; number = s.lo_number }
@@ -140,50 +150,62 @@ passed b V c t =
       of_rest = Comp.and_r (modest V.low) (modest (rest V c)) t₃;
     }
 
--- the exact sum of c and the high part
-pub record Summed (b : Bool) (V : State) (c : Float) (v : DoubleDouble) : Type 0 where
-  pub exact : ExactAdd (exactly c) (exactly v.hi) (pair (sum_by b c v.hi))
-  pub lo_good : Good (sum_by b c v.hi).lo 1474
-  pub hi_number : Number (sum_by b c v.hi).hi
-  pub lo_size : Abs (exactly (sum_by b c v.hi).lo) (rest V c)
-  pub hi_size : Abs (exactly (sum_by b c v.hi).hi) (above c + V.high + 0 + rest V c)
+-- the exact sum of c and a number x, of the size of V's high part
+pub record Summed (b : Bool) (V : State) (c x : Float) : Type 0 where
+  pub exact : ExactAdd (exactly c) (exactly x) (pair (sum_by b c x))
+  pub lo_good : Good (sum_by b c x).lo 1474
+  pub hi_number : Number (sum_by b c x).hi
+  pub lo_size : Abs (exactly (sum_by b c x).lo) (rest V c)
+  pub hi_size : Abs (exactly (sum_by b c x).hi) (above c + V.high + 0 + rest V c)
 
-summed : (b : Bool) (V : State) (c : Float) (v : DoubleDouble) {X : Q} → Number c → Holds V v X → Passed b V c → Summed b V c v
-summed b V c v n h p =
-    let s = sum_of_lem b c v.hi V (good c n (size_of (exactly c)) p.of_c) (good v.hi h.hi_number h.parts.hi p.of_high) h.parts.hi p.leads_it in
-    let e = exact_sum c v.hi (sum_by b c v.hi).lo (sum_by b c v.hi).hi s in
-    let t = sum_size (size_of (exactly c)) h.parts.hi in
+pub summed : (b : Bool) (V : State) (c x : Float) → Number c → Number x → Abs (exactly x) V.high → Passed b V c → Summed b V c x
+summed b V c x n i h p =
+    let s = sum_of_lem b c x V (good c n (size_of (exactly c)) p.of_c) (good x i h p.of_high) h p.leads_it in
+    let e = exact_sum c x (sum_by b c x).lo (sum_by b c x).hi s in
+    let t = abs_add (size_of (exactly c)) h in
     let l = exact_low e t in
     record {
       exact = e;
-      lo_good = good (sum_by b c v.hi).lo (lo_fits b c v.hi s) l p.of_rest;
-      hi_number = hi_fits b c v.hi s;
+      lo_good = good (sum_by b c x).lo (lo_fits b c x s) l p.of_rest;
+      hi_number = hi_fits b c x s;
       lo_size = l;
       hi_size = exact_high e t;
     }
 
-zeros : (r e : ℕ) → r + (0 + (0 + 0 + (0 + e))) ≤ r + e
-zeros r e = omega arith
+-- c + v, where w is the rounded sum of the low parts
+low_added : (b : Bool) (V : State) (c w : Float) (v : DoubleDouble) (X : Q) → Number w → Holds V v X → Summed b V c v.hi → Near (exactly w) (exactly (sum_by b c v.hi).lo ⊕ exactly v.lo) (lost V c)
+    → Holds (added V c) (record { lo = w; hi = (sum_by b c v.hi).hi }) (exactly c ⊕ X)
+low_added b V c w v X n h s r =
+    let lo = (sum_by b c v.hi).lo in
+    let hi = (sum_by b c v.hi).hi in
+    record {
+      lo_number = n;
+      hi_number = s.hi_number;
+      parts = record { hi = s.hi_size; lo = abs_near (abs_add s.lo_size h.parts.lo) (near_sym r) };
+      near = N.near_weaken (omega arith) (one_plus (exactly hi) r then near_sym (grouped (exactly hi) (exactly lo) (exactly v.lo)) then near_add (exact_near s.exact) (near_refl (exactly v.lo)) then grouped (exactly c) (exactly v.hi) (exactly v.lo) then one_plus (exactly c) h.near);
+      size = abs_add (size_of (exactly c)) h.size;
+    }
 
--- c + v
 pub added_holds : (b : Bool) (V : State) (c : Float) (v : DoubleDouble) (X : Q) → Number c → Holds V v X → T (safe b V c) → Holds (added V c) (plus (sum_by b) c v) (exactly c ⊕ X)
 added_holds b V c v X n h t =
     let p = passed b V c t in
-    let s = summed b V c v n h p in
+    let s = summed b V c v.hi n h.hi_number h.parts.hi p in
     let lo = (sum_by b c v.hi).lo in
-    let hi = (sum_by b c v.hi).hi in
     let gv = good v.lo h.lo_number h.parts.lo p.of_low in
-    let r = sum_means lo v.lo 1474 s.lo_good gv (lit< tt) in
     let g = (good_add lo v.lo 1474 s.lo_good gv (lit< tt)).0 in
-    let rs = sum_size s.lo_size h.parts.lo in
-    let rn = rounded_near r rs in
-    record {
-      lo_number = record { holds = g.holds; number = g.number };
-      hi_number = s.hi_number;
-      parts = record { hi = s.hi_size; lo = moved rs (sym_near rn) };
-      near = N.near_weaken G G>0 (zeros (lost V c) V.error) (one_plus (exactly hi) rn then sym_near (grouped (exactly hi) (exactly lo) (exactly v.lo)) then C.plus (exact_near s.exact) (C.itself (exactly v.lo)) then grouped (exactly c) (exactly v.hi) (exactly v.lo) then one_plus (exactly c) h.near);
-      size = sum_size (size_of (exactly c)) h.size;
-    }
+    low_added b V c (add binary64 lo v.lo) v X (good_number g) h s (rounded_near (sum_means lo v.lo 1474 s.lo_good gv (lit< tt)) (abs_add s.lo_size h.parts.lo))
+
+-- the same with the low parts added the other way round
+pub number_added : (V : State) (c : Float) (v : DoubleDouble) (X : Q) → Number c → Holds V v X → T (safe false V c) → Holds (added V c) (number_plus_pair c v) (exactly c ⊕ X)
+number_added V c v X n h t =
+    let p = passed false V c t in
+    let s = summed false V c v.hi n h.hi_number h.parts.hi p in
+    let lo = (fast_two_sum c v.hi).lo in
+    let gv = good v.lo h.lo_number h.parts.lo p.of_low in
+    let g = (good_add v.lo lo 1474 gv s.lo_good (lit< tt)).0 in
+    let z = Comp.abs_weaken {n = rest V c + V.low} (omega arith) (abs_add h.parts.lo s.lo_size) in
+    low_added false V c (add binary64 v.lo lo) v X (good_number g) h s
+    (N.near_weaken {f = lost V c} (omega arith) (rounded_near (sum_means v.lo lo 1474 gv s.lo_good (lit< tt)) z then turned (exactly v.lo) (exactly lo)))
 
 -- c + d + v, where d is the small part of a coefficient
 abbrev pub inner : State → Float → ℕ
@@ -203,37 +225,34 @@ added_both V c d = record {
 abbrev pub safe_both : Bool → State → Float → Float → Bool
 safe_both b V c d = safe b V c && (modest (above d) && modest (V.low + above d + inner V d))
 
-zeros₂ : (r w e : ℕ) → r + (w + (0 + (0 + 0 + (0 + e)))) ≤ r + (w + e)
-zeros₂ r w e = omega arith
-
 pub both_holds : (b : Bool) (V : State) (c d : Float) (v : DoubleDouble) (X : Q) → Number c → Number d → Holds V v X → T (safe_both b V c d) → Holds (added_both V c d) (plus_both (sum_by b) c d v) (exactly c ⊕ exactly d ⊕ X)
 both_holds b V c d v X n nd h t =
     let t₁ = Comp.and_r (safe b V c) (modest (above d) && modest (V.low + above d + inner V d)) t in
     let p = passed b V c (Comp.and_l (safe b V c) (modest (above d) && modest (V.low + above d + inner V d)) t) in
-    let s = summed b V c v n h p in
+    let s = summed b V c v.hi n h.hi_number h.parts.hi p in
     let lo = (sum_by b c v.hi).lo in
     let hi = (sum_by b c v.hi).hi in
     let w = add binary64 v.lo d in
     let gv = good v.lo h.lo_number h.parts.lo p.of_low in
     let gd = good d nd (size_of (exactly d)) (Comp.and_l (modest (above d)) (modest (V.low + above d + inner V d)) t₁) in
     let gw₀ = (good_add v.lo d 1474 gv gd (lit< tt)).0 in
-    let ws = sum_size h.parts.lo (size_of (exactly d)) in
+    let ws = abs_add h.parts.lo (size_of (exactly d)) in
     let wn = rounded_near (sum_means v.lo d 1474 gv gd (lit< tt)) ws in
-    let wz = moved ws (sym_near wn) in
-    let gw = good w (record { holds = gw₀.holds; number = gw₀.number }) wz (Comp.and_r (modest (above d)) (modest (V.low + above d + inner V d)) t₁) in
+    let wz = abs_near ws (near_sym wn) in
+    let gw = good w (good_number gw₀) wz (Comp.and_r (modest (above d)) (modest (V.low + above d + inner V d)) t₁) in
     let r = sum_means lo w 1474 s.lo_good gw (lit< tt) in
     let g = (good_add lo w 1474 s.lo_good gw (lit< tt)).0 in
-    let rs = sum_size s.lo_size wz in
+    let rs = abs_add s.lo_size wz in
     let rn = rounded_near r rs in
     record {
-      lo_number = record { holds = g.holds; number = g.number };
+      lo_number = good_number g;
       hi_number = s.hi_number;
-      parts = record { hi = s.hi_size; lo = moved rs (sym_near rn) };
-      near = N.near_weaken G G>0 (zeros₂ (outer V c d) (inner V d) V.error)
+      parts = record { hi = s.hi_size; lo = abs_near rs (near_sym rn) };
+      near = N.near_weaken (omega arith)
           (one_plus (exactly hi) rn then one_plus (exactly hi) (one_plus (exactly lo) wn)
-          then sym_near (grouped (exactly hi) (exactly lo) (exactly v.lo ⊕ exactly d)) then C.plus (exact_near s.exact) (C.itself (exactly v.lo ⊕ exactly d))
+          then near_sym (grouped (exactly hi) (exactly lo) (exactly v.lo ⊕ exactly d)) then near_add (exact_near s.exact) (near_refl (exactly v.lo ⊕ exactly d))
           then swap (exactly c) (exactly v.hi) (exactly v.lo) (exactly d) then one_plus (exactly c ⊕ exactly d) h.near);
-      size = sum_size (sum_size (size_of (exactly c)) (size_of (exactly d))) h.size;
+      size = abs_add (abs_add (size_of (exactly c)) (size_of (exactly d))) h.size;
     }
 
 -- ---- one number, near X
@@ -249,39 +268,26 @@ leading c = record { high = above c; low = 0; error = 0; size = above c + 0 }
 
 pub leading_one : {A : State} {u : DoubleDouble} (c : Float) (U : Q) → Number c → Holds A u U → One (leading c) c (exactly c ⊕ whole 0 ⊗ U)
 leading_one c U n k =
-    let from = sym_near (kept (exactly c) (nothing U k.size)) in
-    record { number = n; high = size_of (exactly c); near = from; size = moved (size_of (exactly c)) from }
+    let from = near_sym (kept (exactly c) (nothing U k.size)) in
+    record { number = n; high = size_of (exactly c); near = from; size = abs_near (size_of (exactly c)) from }
 
--- the high part of u alone is off by the low part too
-abbrev pub apart : State → ℕ
-apart A = A.low + A.error
+-- the high part of a pair alone is off by the low part too
+abbrev pub head : State → State
+head A = record { high = A.high; low = 0; error = A.low + A.error; size = A.size }
 
-abbrev pub fma_part : State → State → ℕ
-fma_part S A = mul_g S.error A.high + mul_g (apart A) S.size
+pub head_one : {A : State} (u : DoubleDouble) {U : Q} → Holds A u U → One (head A) u.hi U
+head_one u k = record { number = k.hi_number; high = k.parts.hi; near = near_sym (kept (exactly u.hi) k.parts.lo) then k.near; size = k.size }
 
-abbrev pub fma_lost : State → State → Float → ℕ
+abbrev fma_lost : State → State → Float → ℕ
 fma_lost S A c = shr (above c + mul_g S.high A.high) 53 + shr (mul_g S.high A.high + above c) 103 + 1
 
 abbrev pub fma_state : State → State → Float → State
 fma_state S A c = record {
   high = above c + mul_g S.high A.high + fma_lost S A c;
   low = 0;
-  error = fma_lost S A c + fma_part S A;
+  error = fma_lost S A c + (mul_g S.error A.high + mul_g A.error S.size);
   size = above c + mul_g S.size A.size;
 }
-
-pub high_near : {A : State} (u : DoubleDouble) {U : Q} → Holds A u U → Near (exactly u.hi) U (apart A)
-high_near u k = sym_near (kept (exactly u.hi) k.parts.lo) then k.near
-
-pub fma_one : {S A : State} (c z : Float) (u : DoubleDouble) (r : Float) {Z U : Q} → One S z Z → Holds A u U → Fma (exactly z) (exactly u.hi) (exactly c) (exactly r) → Number r → One (fma_state S A c) r (exactly c ⊕ Z ⊗ U)
-fma_one c z u r h k f n =
-    let d = C.fma_near h.high k.parts.hi (size_of (exactly c)) f in
-    record {
-      number = n;
-      high = moved (sum_size (size_of (exactly c)) (product_size h.high k.parts.hi)) (sym_near d);
-      near = d then one_plus (exactly c) (product_near h.near k.parts.hi (high_near u k) h.size);
-      size = sum_size (size_of (exactly c)) (product_size h.size k.size);
-    }
 
 -- u times a number
 abbrev pub times_one : State → State → State
@@ -300,7 +306,7 @@ one_holds z u v {Z} {U} h k m l n =
       hi_number = n;
       parts = pair_parts k.parts P m;
       near = pair_near k.parts P m then product_near k.near (value_size P) (kept (exactly z) no_size then h.near) k.size then turned_product U Z;
-      size = moved (product_size k.size h.size) (turned_product U Z);
+      size = abs_near (product_size k.size h.size) (turned_product U Z);
     }
 
 -- ---- the loop over an arithmetic
@@ -334,6 +340,18 @@ module _ {S : Type 0} (o : Ops S) (m : Meaning o) where
       let w = m.pair_times_pair s z u (operand z.lo h.lo_number h.parts.lo (Comp.and_r (modest Y.high) (modest Y.low) t)) (operand z.hi h.hi_number h.parts.hi (Comp.and_l (modest Y.high) (modest Y.low) t))
       (operand u.lo k.lo_number k.parts.lo (Comp.and_r (modest A.high) (modest A.low) a)) (operand u.hi k.hi_number k.parts.hi (Comp.and_l (modest A.high) (modest A.low) a)) in
       times_holds (o.pair_times_pair s z u).1 h k (pairs_mean z.lo z.hi u.lo u.hi _ _ w) w.low w.high
+
+  -- a multiply-add
+  pub madd_one : (s : S) {Y A : State} (c z x : Float) {Z U : Q} → One Y z Z → T (modest Y.high) → One A x U → T (modest A.high) → Number c → T (modest (above c)) → One (fma_state Y A c) (o.multiply_add s z x c).1 (exactly c ⊕ Z ⊗ U)
+  madd_one s c z x h t k a n i =
+      let w = m.multiply_add s z x c (operand z h.number h.high t) (operand x k.number k.high a) (operand c n (size_of (exactly c)) i) in
+      let d = C.fma_near h.high k.high (size_of (exactly c)) (madd_means z x c _ w) in
+      record {
+        number = w.answer;
+        high = abs_near (abs_add (size_of (exactly c)) (product_size h.high k.high)) (near_sym d);
+        near = d then one_plus (exactly c) (product_near h.near k.high k.near h.size);
+        size = abs_add (size_of (exactly c)) (product_size h.size k.size);
+      }
 
   pub loop_holds : {term : ℕ → DoubleDouble → DoubleDouble} (R : Rule term) (A : State) (u : DoubleDouble) (U : Q) → Holds A u U → T (ready A)
       → (n : ℕ) (s : S) (Y : State) (z : DoubleDouble) (Z : Q) → Holds Y z Z → T (tests R A n Y) → Holds (bounds_of R A n Y) (horner o term u n s z).1 (exact_of R A U n Z)

@@ -1,51 +1,33 @@
 -- 1/x² of a tail argument, and the pair for it, in the bounds of the row that 1/x chooses. Assumes nothing.
-use Rattle.std.proofs.Common.{◌≡◌, ℕ, zero, suc, ◌+◌, ◌-◌, ◌*◌, ◌^◌, ◌<◌, ◌≤◌, Bool, true, false, cond, ◌&&◌, T, List, [], ◌∷◌, length, get_or, ℤ, pos, negsuc, ◌-ℤ◌, ◌*ℤ◌, nat_abs, sym, refl, ap, subst, le_refl, lt_of_lt_of_le, le_of_suc-le-suc, not-suc-le-zero, mul-le-mul_right, mul-le-mul, mul-le-mul_left, mul-pos, arith, lit≤, pow_pos}
+use Rattle.std.proofs.Common.{◌≡◌, ℕ, zero, suc, ◌+◌, ◌-◌, ◌*◌, ◌^◌, ◌<◌, ◌≤◌, Bool, true, false, cond, ◌&&◌, T, List, [], ◌∷◌, length, get_or, ℤ, pos, negsuc, ◌-ℤ◌, ◌*ℤ◌, nat_abs, sym, refl, subst, le_refl, lt_of_lt_of_le, le_of_suc-le-suc, not-suc-le-zero, mul-le-mul_right, mul-le-mul, mul-le-mul_left, mul-pos, arith, lit≤, pow_pos}
 use native.Mathlib.Decide.{dec_le}
 use lib.Ieee.{Float, binary64, of_bits, lt, div}
 use lib.Ieee.Scale.{finite}
 use lib.Ieee.Bits.{of_bits-fits}
 use Rattle.ieee.specs.Val.{val}
+use Rattle.ieee.proofs.Ints.{zs}
+use Rattle.ieee.proofs.Compare.{Below, lt_in}
 use Rattle.double_double.specs.Ops.{Ops, Meaning}
 use Rattle.erfc.specs.Rows.{Argument, fast_thresholds, accurate_thresholds, first_not_below, fast_row, accurate_row, fast_end, tail_end}
 use Rattle.erfc.specs.Asymptotics.{one, reciprocal, squared}
+use Rattle.erfc.proofs.Tail.{fast_row_within, accurate_row_within}
 use Rattle.bounds.specs.Polynomials.{square_bound, NearSquare}
 use Rattle.bounds.specs.Num.{Q, ◌⊕◌, ◌⊗◌, mag, whole, tiny, Within}
 use Rattle.bounds.specs.Floats.{above, units, exactly}
 use Rattle.bounds.specs.Formulas.{inverse, sum_of}
-use Rattle.ieee.proofs.Ints.{zs}
-use Rattle.ieee.proofs.Compare.{Below, lt_in}
-use Rattle.erfc.proofs.Tail.{fast_row_within, accurate_row_within}
 use Rattle.bounds.proofs.WholeReciprocal as W
-use Rattle.bounds.proofs.WholeReciprocal.{Inverse}
+use Rattle.bounds.proofs.WholeReciprocal.{Inverse, to_tail}
 use Rattle.bounds.proofs.RecipPair.{reciprocal_square_near}
 use Rattle.bounds.proofs.Computed as Comp
 use Rattle.bounds.proofs.Over.{far}
 use Rattle.bounds.proofs.Inverse.{inv}
 
 -- ---- dividing by x²
-divide_le : (X l su sn sd p mu : ℕ) → mu ≡ l * l → (((X * X + 0 * 0) * su + (X * 0 + 0 * X) * sn) * 1 + 0 * (l * l * sd)) * p + 0 * (l * l * sd * 1) ≤ (((X * X + 0 * 0) * sn + (X * 0 + 0 * X) * su) * 1 + 1 * (l * l * sd)) * p + 1 * (l * l * sd * 1)
-    → (su * (X * X) + (l * 0 + 0 * l) * sd) * (p * (X * X)) + (1 * 0 + 0 * mu) * (sd * (X * X)) ≤ (sn * (X * X) + (l * l + 0 * 0) * sd) * (p * (X * X)) + (1 * mu + 0 * 0) * (sd * (X * X))
-divide_le X l su sn sd p mu e h = omega (arith, mul-le-mul_right (X * X) h, ap (λ (z : ℕ). z * (sd * (X * X))) e)
-
-divide_ge : (X l su sn sd p mu : ℕ) → mu ≡ l * l → (((X * X + 0 * 0) * sn + (X * 0 + 0 * X) * su) * 1 + 1 * (l * l * sd)) * p + 0 * (l * l * sd * 1) ≤ (((X * X + 0 * 0) * su + (X * 0 + 0 * X) * sn) * 1 + 0 * (l * l * sd)) * p + 1 * (l * l * sd * 1)
-    → (sn * (X * X) + (l * l + 0 * 0) * sd) * (p * (X * X)) + (1 * 0 + 0 * mu) * (sd * (X * X)) ≤ (su * (X * X) + (l * 0 + 0 * l) * sd) * (p * (X * X)) + (1 * mu + 0 * 0) * (sd * (X * X))
-divide_ge X l su sn sd p mu e h = omega (arith, mul-le-mul_right (X * X) h, ap (λ (z : ℕ). z * (sd * (X * X))) e)
-
-divide_small : (X l su sn sd p mu : ℕ) → mu ≡ l * l → (((X * X + 0 * 0) * su + (X * 0 + 0 * X) * sn) * 1 + 0 * (l * l * sd)) * p + 0 * (l * l * sd * 1) ≤ (((X * X + 0 * 0) * sn + (X * 0 + 0 * X) * su) * 1 + 0 * (l * l * sd)) * p + 1 * (l * l * sd * 1)
-    → (su * 1 + 0 * sd) * (p * (X * X)) + (1 * 0 + 0 * mu) * (sd * 1) ≤ (sn * 1 + 0 * sd) * (p * (X * X)) + (1 * mu + 0 * 0) * (sd * 1)
-divide_small X l su sn sd p mu e h = omega (arith, h, ap (λ (z : ℕ). z * sd) e)
-
 near_inverse : (X : ℕ) (p : 0 < X) (s : Q) (k : ℕ) → Within (units (pos X) ⊗ units (pos X) ⊗ s) (whole 1) (tiny k) → Within s (inv (pos X) p ⊗ inv (pos X) p) (tiny k ⊗ mag (inv (pos X) p ⊗ inv (pos X) p))
-near_inverse X p s k h = record {
-  le = divide_le X (2 ^ 1074) s.up s.dn s.den (2 ^ k) _ refl h.le;
-  ge = divide_ge X (2 ^ 1074) s.up s.dn s.den (2 ^ k) _ refl h.ge;
-}
+near_inverse X p s k h = record { le = omega (arith, mul-le-mul_right (X * X) h.le); ge = omega (arith, mul-le-mul_right (X * X) h.ge) }
 
 small_inverse : (X : ℕ) (p : 0 < X) (s : Q) (k : ℕ) → Within (units (pos X) ⊗ units (pos X) ⊗ s) (whole 0) (tiny k) → Within s (whole 0) (tiny k ⊗ mag (inv (pos X) p ⊗ inv (pos X) p))
-small_inverse X p s k h = record {
-  le = divide_small X (2 ^ 1074) s.up s.dn s.den (2 ^ k) _ refl h.le;
-  ge = divide_small X (2 ^ 1074) s.dn s.up s.den (2 ^ k) _ refl h.ge;
-}
+small_inverse X p s k h = record { le = omega (arith, h.le); ge = omega (arith, h.ge) }
 
 -- ---- 1 / x² below the square of the threshold
 square₀ : (l X t : ℕ) → (2 ^ 53 - 1) * (l * l) ≤ 2 ^ 53 * (X * t) → 2 ^ 50 * (l * l * (l * l)) ≤ (2 ^ 50 + 1) * (X * t * (X * t))
@@ -54,25 +36,12 @@ square₀ l X t h = go (l * l * (l * l)) (X * t * (X * t)) (omega (arith, mul-le
     go : (a b : ℕ) → (2 ^ 53 - 1) * (2 ^ 53 - 1) * a ≤ 2 ^ 53 * 2 ^ 53 * b → 2 ^ 50 * a ≤ (2 ^ 50 + 1) * b
     go a b h = omega arith
 
-square_le : (l X t q : ℕ) → q * (l * l * (l * l)) ≤ (q + 1) * (X * t * (X * t))
-    → ((l * l + 0 * 0) * 1 + 0 * (X * X)) * (l * l * (1 * q)) + ((t * t + 0 * 0) * (0 * q + 0 * 1) + (t * 0 + 0 * t) * (1 * q + 1 * 1)) * (X * X * 1)
-    ≤ ((l * 0 + 0 * l) * 1 + 0 * (X * X)) * (l * l * (1 * q)) + ((t * t + 0 * 0) * (1 * q + 1 * 1) + (t * 0 + 0 * t) * (0 * q + 0 * 1)) * (X * X * 1)
-square_le l X t q h = omega (arith, h)
-
-square_ge : (l X t q : ℕ)
-    → ((l * 0 + 0 * l) * 1 + 0 * (X * X)) * (l * l * (1 * q)) + ((t * t + 0 * 0) * (0 * q + 0 * 1) + (t * 0 + 0 * t) * (1 * q + 1 * 1)) * (X * X * 1)
-    ≤ ((l * l + 0 * 0) * 1 + 0 * (X * X)) * (l * l * (1 * q)) + ((t * t + 0 * 0) * (1 * q + 1 * 1) + (t * 0 + 0 * t) * (0 * q + 0 * 1)) * (X * X * 1)
-square_ge l X t q = omega arith
-
 square_size : (X t : ℕ) (p : 0 < X) → (2 ^ 53 - 1) * (2 ^ 1074 * 2 ^ 1074) ≤ 2 ^ 53 * (X * t) → Within (inv (pos X) p ⊗ inv (pos X) p) (whole 0) (units (pos t) ⊗ units (pos t) ⊗ (whole 1 ⊕ tiny 50))
-square_size X t p h = record { le = square_le (2 ^ 1074) X t (2 ^ 50) (square₀ (2 ^ 1074) X t h); ge = square_ge (2 ^ 1074) X t (2 ^ 50) }
+square_size X t p h = record { le = omega (arith, square₀ (2 ^ 1074) X t h); ge = omega arith }
 
 -- ---- from y to the threshold above it
 least : (a l d : ℕ) → l * l ≤ a + d → 2 ^ 53 * d ≤ l * l → (2 ^ 53 - 1) * (l * l) ≤ 2 ^ 53 * a
 least a l d h k = omega arith
-
-negative : (X v l : ℕ) → l * l ≤ nat_abs (pos X *ℤ negsuc v -ℤ pos l *ℤ pos l)
-negative X v l = omega zs
 
 none : (n d : ℕ) → 0 < n → n ≤ d → 2 ^ 53 * d ≤ n → ⊥
 none n d p h k = omega arith
@@ -92,7 +61,7 @@ reach X l (pos v) (pos t) q h n = record { t = t; is = refl; reached = go (dec_l
     go (yes k) = up (X * v) (X * t) ((2 ^ 53 - 1) * (l * l)) (least (X * v) l (nat_abs (pos X *ℤ pos v -ℤ pos l *ℤ pos l)) (far (X * v) (l * l) _ (le_refl _)) h) (mul-le-mul_left X k)
     go (no k) = absurd (n (omega (arith, k)))
 reach X l (pos v) (negsuc t) q h n = absurd (n (omega arith))
-reach X l (negsuc v) T' q h n = absurd (none (l * l) (nat_abs (pos X *ℤ negsuc v -ℤ pos l *ℤ pos l)) (mul-pos q q) (negative X v l) h)
+reach X l (negsuc v) T' q h n = absurd (none (l * l) (nat_abs (pos X *ℤ negsuc v -ℤ pos l *ℤ pos l)) (mul-pos q q) (omega zs) h)
 
 -- ---- the threshold of the row
 next_place : (n : ℕ) → suc n ≡ 1 + n
@@ -145,7 +114,7 @@ module _ {S : Type 0} (o : Ops S) (m : Meaning o) where
 
   pub fast_square : (s t : S) (x : Float) (p : 0 < above (val x)) → Argument x fast_end → NearSquare fast_thresholds (fast_row (div binary64 one x)) (squared o t (reciprocal o s x).1).1 (inverse x p ⊗ inverse x p)
   unfolding of_bits
-  fast_square s t x p a = square_in_row fast_thresholds tt s t x p (record { bits = a.bits; is = a.is; first = a.first; below = lt_of_lt_of_le a.below (lit≤ tt) }) (fast_row_within x fast_end a (lit≤ tt) (div binary64 one x) (fast_row (div binary64 one x)) refl refl)
+  fast_square s t x p a = square_in_row fast_thresholds tt s t x p (to_tail a) (fast_row_within x fast_end a (lit≤ tt) (div binary64 one x) (fast_row (div binary64 one x)) refl refl)
 
   pub accurate_square : (s t : S) (x : Float) (p : 0 < above (val x)) → Argument x tail_end → NearSquare accurate_thresholds (accurate_row (div binary64 one x)) (squared o t (reciprocal o s x).1).1 (inverse x p ⊗ inverse x p)
   unfolding of_bits

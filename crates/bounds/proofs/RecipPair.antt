@@ -1,9 +1,9 @@
 -- The pair for 1/x and its square, over every arithmetic with the meaning. Assumes nothing.
-use Rattle.std.proofs.Common.{ℕ, ◌*◌, ◌^◌, ◌≤◌, ℤ, pos, ◌+ℤ◌, ◌*ℤ◌, subst, arith, pow_pos}
+use Rattle.std.proofs.Common.{◌*◌, ◌^◌, ℤ, pos, ◌+ℤ◌, ◌*ℤ◌, subst, arith, pow_pos}
 use lib.Ieee.{Float}
+use Rattle.ieee.specs.Val.{val}
 use Rattle.double_double.specs.declared.double_double.DoubleDouble.{DoubleDouble}
 use Rattle.double_double.specs.Ops.{Ops, Meaning}
-use Rattle.ieee.specs.Val.{val}
 use Rattle.erfc.specs.Rows.{Argument, tail_end}
 use Rattle.erfc.specs.Asymptotics.{reciprocal, squared}
 use Rattle.bounds.specs.Num.{◌⊗◌, tiny}
@@ -24,19 +24,10 @@ of_inverse x y v =
     record {
       low = v.low;
       high = v.high;
-      near = within_one (exactly x ⊗ sum_of y) (tiny 104) (pos v.X *ℤ (val y.hi +ℤ val y.lo)) (2 ^ 1074 * 2 ^ 1074) 1 104 (pow_pos 2148) (over_mul X (over_add H L)) (over_tiny 104) (near₀ _ (2 ^ 1074 * 2 ^ 1074) v.near);
-      high_near = within_one (exactly x ⊗ exactly y.hi) (tiny 53) (pos v.X *ℤ val y.hi) (2 ^ 1074 * 2 ^ 1074) 1 53 (pow_pos 2148) (over_mul X H) (over_tiny 53) (high₀ _ (2 ^ 1074 * 2 ^ 1074) v.high_near);
-      low_small = within_zero (exactly x ⊗ exactly y.lo) (tiny 52) (pos v.X *ℤ val y.lo) (2 ^ 1074 * 2 ^ 1074) 1 52 (pow_pos 2148) (over_mul X L) (over_tiny 52) (low₀ _ (2 ^ 1074 * 2 ^ 1074) v.low_small);
+      near = within_one (exactly x ⊗ sum_of y) (tiny 104) (pos v.X *ℤ (val y.hi +ℤ val y.lo)) (2 ^ 1074 * 2 ^ 1074) 1 104 (pow_pos 2148) (over_mul X (over_add H L)) (over_tiny 104) v.near;
+      high_near = within_one (exactly x ⊗ exactly y.hi) (tiny 53) (pos v.X *ℤ val y.hi) (2 ^ 1074 * 2 ^ 1074) 1 53 (pow_pos 2148) (over_mul X H) (over_tiny 53) v.high_near;
+      low_small = within_zero (exactly x ⊗ exactly y.lo) (tiny 52) (pos v.X *ℤ val y.lo) (2 ^ 1074 * 2 ^ 1074) 1 52 (pow_pos 2148) (over_mul X L) (over_tiny 52) (omega (arith, v.low_small));
     }
-  where
-    near₀ : (d n : ℕ) → 2 ^ 104 * d ≤ n → 2 ^ 104 * d ≤ 1 * n
-    near₀ d n h = omega arith
-
-    high₀ : (d n : ℕ) → 2 ^ 53 * d ≤ n → 2 ^ 53 * d ≤ 1 * n
-    high₀ d n h = omega arith
-
-    low₀ : (d n : ℕ) → 2 ^ 55 * d ≤ 5 * n → 2 ^ 52 * d ≤ 1 * n
-    low₀ d n h = omega arith
 
 module _ {S : Type 0} (o : Ops S) (m : Meaning o) where
   pub reciprocal_near : (s : S) (x : Float) → Argument x tail_end → Reciprocal x (reciprocal o s x).1

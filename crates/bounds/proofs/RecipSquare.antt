@@ -2,8 +2,6 @@
 use Rattle.std.proofs.Common.{◌≡◌, ℕ, ◌+◌, ◌*◌, ◌^◌, ◌<◌, ◌≤◌, ℤ, pos, ◌+ℤ◌, ◌-ℤ◌, ◌*ℤ◌, nat_abs, sym, refl, ap, ◌∙◌, subst, le_trans, le_of_eq, lt_of_le_of_lt, mul-le-mul_right, mul-le-mul, arith, lit<, lit≤, pow_pos}
 use lib.Ieee.{Float, binary64, fits, of_bits, mul}
 use lib.Ieee.Fits.{mul-fits}
-use Rattle.double_double.specs.declared.double_double.DoubleDouble.{DoubleDouble}
-use Rattle.double_double.specs.Ops.{Ops, Meaning}
 use Rattle.ieee.specs.Val.{val, rz, Under}
 use Rattle.ieee.specs.Meaning.{Number, Operand}
 use Rattle.ieee.proofs.Ints.{zs, abs_mul, massoc, mcomm, dist, cancel_le}
@@ -12,6 +10,8 @@ use Rattle.ieee.proofs.Bridge.{val_repr}
 use Rattle.ieee.proofs.Scaled.{repr_scale}
 use Rattle.ieee.proofs.Fractions.{mul_whole, rq_error}
 use Rattle.ieee.proofs.Tools.{abs_sub, lin}
+use Rattle.double_double.specs.declared.double_double.DoubleDouble.{DoubleDouble}
+use Rattle.double_double.specs.Ops.{Ops, Meaning}
 use Rattle.erfc.specs.Asymptotics.{two, squared}
 use Rattle.bounds.specs.Num.{◌⊕◌, ◌⊗◌, whole, tiny}
 use Rattle.bounds.specs.Floats.{exactly}
@@ -29,22 +29,13 @@ size X l c z L h k = go (nat_abs z) (subst (λ (n : ℕ). n ≤ c * (l * l)) (ab
     go : (n : ℕ) → X * n ≤ c * (l * l) → n ≤ c * l
     go n k = cancel_le l n (c * l) L (omega (arith, mul-le-mul_right n h))
 
-high_most : (a : ℤ) (n : ℕ) → 2 ^ 53 * nat_abs (a -ℤ pos n) ≤ n → nat_abs a ≤ 2 * n
-high_most a n h = omega zs
-
-low_most : (a n : ℕ) → 2 ^ 55 * a ≤ 5 * n → a ≤ 1 * n
-low_most a n h = omega arith
-
 -- the low part of the product y y, of g + g'
 rest_most : (g g' y : ℤ) (l : ℕ) → 2 ^ 10 ≤ l → 0 < l → nat_abs y ≤ 2 * l → 2 ^ 53 * nat_abs (g *ℤ pos l -ℤ y *ℤ y) ≤ nat_abs (y *ℤ y) + 2 ^ 52 * l → 2 ^ 104 * nat_abs ((g +ℤ g') *ℤ pos l -ℤ y *ℤ y) ≤ nat_abs (y *ℤ y) + 2 ^ 108 * l → nat_abs g' ≤ 9 * l
 rest_most g g' y l i L h a b =
-    let e : g' *ℤ pos l ≡ ((g +ℤ g') *ℤ pos l -ℤ y *ℤ y) -ℤ (g *ℤ pos l -ℤ y *ℤ y) = id_g (g *ℤ pos l) (g' *ℤ pos l) (y *ℤ y) ∙ ap (λ (z : ℤ). (z -ℤ y *ℤ y) -ℤ (g *ℤ pos l -ℤ y *ℤ y)) (sym (dist g g' (pos l))) in
+    let e : g' *ℤ pos l ≡ ((g +ℤ g') *ℤ pos l -ℤ y *ℤ y) -ℤ (g *ℤ pos l -ℤ y *ℤ y) = omega lin ∙ ap (λ (z : ℤ). (z -ℤ y *ℤ y) -ℤ (g *ℤ pos l -ℤ y *ℤ y)) (sym (dist g g' (pos l))) in
     go (nat_abs g') (nat_abs (g' *ℤ pos l)) (nat_abs ((g +ℤ g') *ℤ pos l -ℤ y *ℤ y)) (nat_abs (g *ℤ pos l -ℤ y *ℤ y)) (nat_abs y) (nat_abs (y *ℤ y)) (abs_mul g' (pos l))
     (le_trans (le_of_eq (ap nat_abs e)) (abs_sub ((g +ℤ g') *ℤ pos l -ℤ y *ℤ y) (g *ℤ pos l -ℤ y *ℤ y))) (abs_mul y y) h a b
   where
-    id_g : (a b p : ℤ) → b ≡ ((a +ℤ b) -ℤ p) -ℤ (a -ℤ p)
-    id_g a b p = omega lin
-
     go : (g G d e y p : ℕ) → G ≡ g * l → G ≤ d + e → p ≡ y * y → y ≤ 2 * l → 2 ^ 53 * e ≤ p + 2 ^ 52 * l → 2 ^ 104 * d ≤ p + 2 ^ 108 * l → g ≤ 9 * l
     go g G d e y p a b c h j k = let q : y * y ≤ 2 * l * (2 * l) = mul-le-mul h h in cancel_le l g (9 * l) L (omega (arith, mul-le-mul_right l i))
 
@@ -57,9 +48,6 @@ two_number : Number two
 unfolding of_bits fits
 two_number = record { holds = tt; number = tt }
 
-doubled : (z : ℤ) → z *ℤ pos (2 ^ 1) ≡ z +ℤ z
-doubled z = omega zs
-
 twice : (y : Float) → Number y → nat_abs (val y) ≤ 2 * 2 ^ 1074 → Operand (mul binary64 two y) × (val (mul binary64 two y) ≡ val y +ℤ val y)
 twice y n h =
     let p = val y *ℤ pos (2 ^ 1) in
@@ -67,7 +55,7 @@ twice y n h =
     let b : nat_abs p ≤ 2 ^ 1076 = le_trans (le_of_eq (abs_mul (val y) (pos (2 ^ 1)))) (mul-le-mul_right (2 ^ 1) h) in
     let f : val two *ℤ val y ≡ p *ℤ pos (2 ^ 1074) = ap (λ (z : ℤ). z *ℤ val y) two_is ∙ mcomm (pos (2 * 2 ^ 1074)) (val y) ∙ sym (massoc (val y) (pos (2 ^ 1)) (pos (2 ^ 1074))) in
     let w = mul_whole two y p two_number.holds n.holds two_number.number n.number f (subst Under (sym e) (lt_of_le_of_lt b (lit< tt))) in
-    (record { holds = mul-fits binary64 two y; number = w.0; small = le_trans (le_of_eq (ap nat_abs (w.1 ∙ e))) (le_trans b (lit≤ tt)) }, w.1 ∙ e ∙ doubled (val y))
+    (record { holds = mul-fits binary64 two y; number = w.0; small = le_trans (le_of_eq (ap nat_abs (w.1 ∙ e))) (le_trans b (lit≤ tt)) }, w.1 ∙ e ∙ omega zs)
 
 module _ {S : Type 0} (o : Ops S) (m : Meaning o) where
   pub square_of : (s : S) (x : Float) (y : DoubleDouble) → Inverse x y.lo y.hi → Square x (squared o s y).1
@@ -76,8 +64,8 @@ module _ {S : Type 0} (o : Ops S) (m : Meaning o) where
       let L = pow_pos 1074 in
       let Y = val y.hi in
       let Y' = val y.lo in
-      let yh = size v.X (2 ^ 1074) 2 Y L v.least (high_most (pos v.X *ℤ Y) (2 ^ 1074 * 2 ^ 1074) v.high_near) in
-      let yl = size v.X (2 ^ 1074) 1 Y' L v.least (low_most (nat_abs (pos v.X *ℤ Y')) (2 ^ 1074 * 2 ^ 1074) v.low_small) in
+      let yh = size v.X (2 ^ 1074) 2 Y L v.least (omega (zs, v.high_near)) in
+      let yl = size v.X (2 ^ 1074) 1 Y' L v.least (omega (arith, v.low_small)) in
       let H : Operand y.hi = record { holds = v.high.holds; number = v.high.number; small = le_trans yh (lit≤ tt) } in
       let H' : Operand y.lo = record { holds = v.low.holds; number = v.low.number; small = le_trans yl (lit≤ tt) } in
       let u = o.product s y.hi y.hi in

@@ -5,54 +5,43 @@ use Rattle.bounds.proofs.Near as N
 use Rattle.bounds.proofs.Computed as Comp
 use Rattle.bounds.proofs.Scale.{Least, near_within}
 
--- M is |b|
-size₀ : (bu bn bd G m M : ℕ) → bu * G ≤ (bn + M) * G → bn * G + m * bd ≤ bu * G → m * bd ≤ M * G
-size₀ bu bn bd G m M h i = omega arith
-
 size₁ : (bu bn : ℕ) → bu ≤ bn + ((bu - bn) + (bn - bu))
 size₁ bu bn = omega arith
 
 part₀ : (qu qn qd bd G e m M : ℕ) → qn ≡ 0 → e * qd * bd ≤ qu * m * bd → qu * (m * bd) ≤ qu * (M * G) → (qu * 0 + qn * M) * G + e * (qd * bd) ≤ (qu * M + qn * 0) * G
-part₀ qu qn qd bd G e m M z h i = rw z (go qu qd bd G e m M h i)
-  where
-    go : (qu qd bd G e m M : ℕ) → e * qd * bd ≤ qu * m * bd → qu * (m * bd) ≤ qu * (M * G) → (qu * 0 + 0 * M) * G + e * (qd * bd) ≤ (qu * M + 0 * 0) * G
-    go qu qd bd G e m M h i = omega arith
+part₀ qu qn qd bd G e m M z h i = rw z (omega (arith, h, i))
 
-scale₀ : (u n d G m P : ℕ) → u * G * P ≤ (n * G + m * d) * P → (1 * u + 0 * n) * (G * P) ≤ (1 * n + 0 * u) * (G * P) + m * (P * d)
-scale₀ u n d G m P h = omega arith
-
-least₀ : (u n d G m P : ℕ) → (n * G + m * d) * P ≤ u * G * P → (1 * n + 0 * u) * (G * P) + m * (P * d) ≤ (1 * u + 0 * n) * (G * P)
-least₀ u n d G m P h = omega arith
-
-module _ (G : ℕ) (G>0 : zero < G) where
+module _ {G : ℕ} where
   -- b at least m: q |b| is at least e, for e ≤ q m
   part_least : (q : Q) → q.dn ≡ 0 → {b : Q} {e m : ℕ} → Least G b m → e * q.den ≤ q.up * m → Least G (q ⊗ mag b) e
-  part_least q z {b} {e} {m} i l = record { le = part₀ q.up q.dn q.den b.den G e m M z (mul-le-mul_right b.den l) (mul-le-mul_left q.up (size₀ b.up b.dn b.den G m M (mul-le-mul_right G (size₁ b.up b.dn)) i.le)) }
+  part_least q z {b} {e} {m} i l = record { le = part₀ q.up q.dn q.den b.den G e m M z (mul-le-mul_right b.den l) (mul-le-mul_left q.up (omega (arith, mul-le-mul_right G (size₁ b.up b.dn), i.le))) }
     where
       M : ℕ
       M = (b.up - b.dn) + (b.dn - b.up)
 
+  -- at the scale G 2^k
+  pub least_scale : (k : ℕ) {a : Q} {m : ℕ} → Least G a m → Least (G * 2 ^ k) (tiny k ⊗ a) m
+  least_scale k {a} {m} h = record { le = omega (arith, mul-le-mul_right (2 ^ k) h.le) }
+
+module _ {G : ℕ} {G>0 : zero < G} where
   -- a within e of b, and b at least m: the relative bound q, for e ≤ q m
   pub relative : (q : Q) → q.dn ≡ 0 → {a b : Q} {e m : ℕ} → N.Near G G>0 a b e → Least G b m → e * q.den ≤ q.up * m → Within a b (q ⊗ mag b)
-  relative q z h i l = near_within G G>0 h (part_least q z i l)
+  relative q z h i l = near_within h (part_least q z i l)
 
   -- |a| ≤ e and b at least m: |a| is within q |b|
   pub relative_to : (q : Q) → q.dn ≡ 0 → {a b : Q} {e m : ℕ} → N.Abs G G>0 a e → Least G b m → e * q.den ≤ q.up * m → Within a (whole 0) (q ⊗ mag b)
-  relative_to q z h i l = near_within G G>0 (Comp.abs_zero G G>0 h) (part_least q z i l)
+  relative_to q z h i l = near_within (Comp.abs_zero h) (part_least q z i l)
 
   -- the product with an equal number
   pub equal_product' : (c : Q) {a b : Q} → N.Near G G>0 a b 0 → N.Near G G>0 (c ⊗ a) (c ⊗ b) 0
-  equal_product' c h = N.near_mulʳ G G>0 {e = 0} {m = Comp.above G G>0 c} {k = 0} h (Comp.above_ok G G>0 c) (omega arith)
+  equal_product' c h = N.near_mulʳ {e = 0} {m = Comp.above G G>0 c} {k = 0} h (Comp.size_of c) (omega arith)
 
   pub equal_product : (c : Q) {a b : Q} → Same a b → N.Near G G>0 (c ⊗ a) (c ⊗ b) 0
-  equal_product c h = equal_product' c (N.near_same G G>0 h)
+  equal_product c h = equal_product' c (N.near_same h)
 
   pub equal_factor : (c : Q) {a b : Q} → Same a b → N.Near G G>0 (a ⊗ c) (b ⊗ c) 0
-  equal_factor c h = N.near_mulˡ G G>0 {e = 0} {m = Comp.above G G>0 c} {k = 0} (N.near_same G G>0 h) (Comp.above_ok G G>0 c) (omega arith)
+  equal_factor c h = N.near_mulˡ {e = 0} {m = Comp.above G G>0 c} {k = 0} (N.near_same h) (Comp.size_of c) (omega arith)
 
   -- at the scale G 2^k
   pub abs_scale : (k : ℕ) {a : Q} {m : ℕ} → N.Abs G G>0 a m → N.Abs (G * 2 ^ k) (mul-pos G>0 (pow_pos k)) (tiny k ⊗ a) m
-  abs_scale k {a} {m} h = record { le = scale₀ a.up a.dn a.den G m (2 ^ k) (mul-le-mul_right (2 ^ k) h.le); ge = scale₀ a.dn a.up a.den G m (2 ^ k) (mul-le-mul_right (2 ^ k) h.ge) }
-
-  pub least_scale : (k : ℕ) {a : Q} {m : ℕ} → Least G a m → Least (G * 2 ^ k) (tiny k ⊗ a) m
-  least_scale k {a} {m} h = record { le = least₀ a.up a.dn a.den G m (2 ^ k) (mul-le-mul_right (2 ^ k) h.le) }
+  abs_scale k {a} {m} h = record { le = omega (arith, mul-le-mul_right (2 ^ k) h.le); ge = omega (arith, mul-le-mul_right (2 ^ k) h.ge) }

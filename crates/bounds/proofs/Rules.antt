@@ -2,14 +2,12 @@
 use Rattle.std.proofs.Common.{ℕ, zero, suc, ◌+◌, ◌*◌, Bool, true, ◌&&◌, T, List, [], ◌∷◌, get_or}
 use lib.Ieee.{Float, binary64, of_bits}
 use lib.Ieee.Scale.{finite}
-use Rattle.ieee.specs.Meaning.{Operand}
 use Rattle.erfc.specs.Horner.{plus, plus_both}
 use Rattle.bounds.specs.Num.{◌⊕◌}
 use Rattle.bounds.specs.Floats.{exactly}
 use Rattle.bounds.proofs.Computed as Comp
-use Rattle.bounds.proofs.Chain.{size_of}
 use Rattle.bounds.proofs.Sizes.{known}
-use Rattle.bounds.proofs.Loop.{State, Rule, above, modest, operand, sum_by, added, safe, added_holds, added_both, safe_both, both_holds}
+use Rattle.bounds.proofs.Loop.{State, Rule, sum_by, added, safe, added_holds, added_both, safe_both, both_holds}
 
 abbrev pub conj : List Bool → Bool
 conj [] = true
@@ -20,10 +18,6 @@ pick zero [] t = tt
 pick zero (b ∷ bs) t = Comp.and_l b (conj bs) t
 pick (suc n) [] t = tt
 pick (suc n) (b ∷ bs) t = pick n bs (Comp.and_r b (conj bs) t)
-
--- a number of a table, not too large
-pub tabled : (bits : ℕ) → T (finite (of_bits binary64 bits)) → T (modest (above (of_bits binary64 bits))) → Operand (of_bits binary64 bits)
-tabled bits t u = operand (of_bits binary64 bits) (known bits t) (size_of (exactly (of_bits binary64 bits))) u
 
 -- how two numbers are added, and the bits of the table
 module _ (b : Bool) (bits : List ℕ) where

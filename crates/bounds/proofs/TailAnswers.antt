@@ -3,6 +3,7 @@ use Rattle.std.proofs.Common.{◌≡◌, ℕ, ◌<◌, ◌≤◌, Bool, true, fa
 use borrow.Author.Tests.{lt-leb}
 use lib.Ieee.{Float, binary64, of_bits, eq}
 use Rattle.ieee.specs.Val.{val}
+use Rattle.ieee.proofs.Whole.{order}
 use Rattle.double_double.specs.Ops.{Ops, Meaning}
 use Rattle.erfc.specs.declared.answer.Answer.{Answer}
 use Rattle.erfc.specs.declared.answer.Code.TheVariants as code
@@ -11,9 +12,8 @@ use Rattle.erfc.specs.declared.classes.Class.TheVariants.{FastTail, FarTail}
 use Rattle.erfc.specs.Classes.{class_of}
 use Rattle.erfc.specs.Ends.{left_end, right_end}
 use Rattle.erfc.specs.Asymptotics.{fast_step, accurate_step}
-use Rattle.erfc.specs.Answers.{plain_answer, decided, accurate_answer, with_fast_step, answer_of, evaluation}
+use Rattle.erfc.specs.Answers.{plain_answer, decided, accurate_answer, with_fast_step, answer_of, outcome_of, evaluation}
 use Rattle.erfc.specs.Rows.{Argument, tail_first, fast_end, tail_end}
-use Rattle.ieee.proofs.Whole.{order}
 use Rattle.bounds.specs.Floats.{above}
 use Rattle.bounds.specs.Promises.{Stands, fast, retried, accurate, listed_bits}
 use Rattle.bounds.proofs.FastAll.{fast_bracketed}
@@ -26,10 +26,10 @@ module _ {S : Type 0} (o : Ops S) where
   listed_is s = refl
 
 -- ---- the classes of the tail
-class_fast : (b : ℕ) → tail_first ≤ b → b < fast_end → class_of b ≡ FastTail
+class_fast : (b : ℕ) → tail_first ≤ b → b < fast_end → class_of b ≡ Ok FastTail
 class_fast b l h = rw (lt-leb b 0x3c8c5bf891b4ef6a (lt_of_lt_of_le (lit< tt) l), le-ltb b tail_first l, lt-ltb b fast_end h) refl
 
-class_far : (b : ℕ) → fast_end ≤ b → b < tail_end → (b ≡ listed_bits → ⊥) → class_of b ≡ FarTail
+class_far : (b : ℕ) → fast_end ≤ b → b < tail_end → (b ≡ listed_bits → ⊥) → class_of b ≡ Ok FarTail
 class_far b l h n = rw (lt-leb b 0x3c8c5bf891b4ef6a (lt_of_lt_of_le (lit< tt) l), le-ltb b tail_first (le_trans (lit≤ tt) l), le-ltb b fast_end l, ne_eqb b listed_bits n, lt-ltb b tail_end h) refl
 
 module _ {S : Type 0} (o : Ops S) (m : Meaning o) where
@@ -45,12 +45,12 @@ module _ {S : Type 0} (o : Ops S) (m : Meaning o) where
       go false e = retried (fast_step o s x).1 (accurate_step o (fast_step o s x).0 x).1 (fast_bracketed o m s x p a) (accurate_measured o m (fast_step o s x).0 x p t)
 
   -- at the class of x
-  of_class : (s : S) (x : Float) (b : ℕ) (c : Class) → x ≡ of_bits binary64 b → class_of b ≡ c → (r : Answer) → (answer_of o c s x).1 ≡ Ok r → (evaluation o s b).1 ≡ Ok r
+  of_class : (s : S) (x : Float) (b : ℕ) (c : Class) → x ≡ of_bits binary64 b → class_of b ≡ Ok c → (evaluation o s b).1 ≡ Ok (answer_of o c s x).1
   unfolding evaluation
-  of_class s x b c e f r h = ap (λ (z : Float). (answer_of o (class_of b) s z).1) (sym e) ∙ ap (λ (d : Class). (answer_of o d s x).1) f ∙ h
+  of_class s x b c e f = ap (λ (z : Float). (outcome_of o (class_of b) s z).1) (sym e) ∙ ap (λ d. (outcome_of o d s x).1) f
 
   pub tail_stands : (s : S) (x : Float) (p : 0 < above (val x)) (a : Argument x tail_end) → (a.bits ≡ listed_bits → ⊥) → (r : Answer) × (((evaluation o s a.bits).1 ≡ Ok r) × Stands x p r)
   tail_stands s x p a n = elim (order fast_end a.bits) [
-    | inl h ↦ (accurate_answer code.Accurate None (accurate_step o s x).1, (of_class s x a.bits FarTail a.is (class_far a.bits h a.below n) _ refl, accurate (accurate_step o s x).1 (accurate_measured o m s x p a)))
-    | inr h ↦ ((with_fast_step o s x).1, (of_class s x a.bits FastTail a.is (class_fast a.bits a.first h) _ refl, with_fast s x p (record { bits = a.bits; is = a.is; first = a.first; below = h }) a))
+    | inl h ↦ (accurate_answer code.Accurate None (accurate_step o s x).1, (of_class s x a.bits FarTail a.is (class_far a.bits h a.below n), accurate (accurate_step o s x).1 (accurate_measured o m s x p a)))
+    | inr h ↦ ((with_fast_step o s x).1, (of_class s x a.bits FastTail a.is (class_fast a.bits a.first h), with_fast s x p (record { bits = a.bits; is = a.is; first = a.first; below = h }) a))
   ]

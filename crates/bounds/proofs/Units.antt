@@ -24,7 +24,7 @@ power_below a t k T h (inr l) = elim (order t k) [
   | inr g ↦ subst (λ (z : ℕ). z ≤ 2 ^ t) (pow-succ' 2 k) (pow_mono {i = suc k} {j = t} g)
 ]
 
-pub first_near : (a t : ℕ) → 0 < t → rnd a 1 < 2 ^ (52 + t) → (rnd a 1 * 4 ≤ a * 4 + 2 ^ t) × (a * 4 ≤ rnd a 1 * 4 + 2 ^ t)
+first_near : (a t : ℕ) → 0 < t → rnd a 1 < 2 ^ (52 + t) → (rnd a 1 * 4 ≤ a * 4 + 2 ^ t) × (a * 4 ≤ rnd a 1 * 4 + 2 ^ t)
 first_near a t T h =
     let u = unit_of a 1 (omega arith) in
     let p = power_below a t u.k T h u.lo in
@@ -45,11 +45,8 @@ module _ (n : ℕ) where
       let p : P * 2 ^ u.k ≡ P = ap (λ (z : ℕ). P * 2 ^ z) (none u) ∙ mul-one P in
       (omega (arith, p, u.above), omega (arith, p, u.below))
     where
-      large : (p q : ℕ) → 0 < q → 2 ^ 52 * (p * q) ≤ r → r < 2 ^ 52 * p → ⊥
-      large p q Q l h = omega (arith, mul-le-mul_right p Q, l, h)
-
       none : (u : UnitOf r P (rnd r P)) → u.k ≡ 0
-      none u = elim u.lo [ inl e ↦ e | inr l ↦ absurd (large P (2 ^ u.k) (pow_pos u.k) l h) ]
+      none u = elim u.lo [ inl e ↦ e | inr l ↦ absurd (omega (arith, pow_pos u.k, l, h, mul-le-mul_right P (pow_pos u.k))) ]
 
   -- nothing where it is normal: a number of 53 digits ends in enough zeros
   pub second_exact : (r q j : ℕ) → q < 2 ^ 53 → r ≡ q * 2 ^ j → 2 ^ 52 * P ≤ r → rnd r P * P ≡ r
@@ -152,18 +149,12 @@ lost a n h l f m b =
     record { size = w.0; near = w.1 }
 
 -- with a correction of c units, within half a unit and 2 ^ -50 of e
-corrected₀ : (a b p : ℕ) (e c x y : ℤ) → 2 ^ 38 * nat_abs (e -ℤ (pos a -ℤ pos b)) ≤ p → 2 ^ 50 * (2 * nat_abs (x -ℤ e)) ≤ (2 ^ 50 + 2) * p → y ≡ pos b +ℤ x → 2 ^ 37 * nat_abs (y -ℤ pos a) ≤ (2 ^ 36 + 1) * (1 * p)
-corrected₀ a b p e c x y h k f = omega (zs, h, k, f)
-
-small₀ : (p : ℕ) (e c : ℤ) → 0 < p → nat_abs e ≤ p → 2 ^ 50 * (2 * nat_abs (c *ℤ pos p -ℤ e)) ≤ (2 ^ 50 + 2) * p → nat_abs (c *ℤ pos p) < 2 * p
-small₀ p e c P h k = omega (zs, P, h, k)
-
 pub corrected : (a s n : ℕ) (e c : ℤ) → Lost a s e n → s < 2 ^ 52 → 2 ^ 50 * (2 * nat_abs (c *ℤ pos (2 ^ suc n) -ℤ e)) ≤ (2 ^ 50 + 2) * 2 ^ suc n → (nat_abs (pos s +ℤ c) ≤ 2 ^ 52) × Close a (pos s +ℤ c) n
 corrected a s n e c w b k =
     let p = 2 ^ suc n in
-    let l : nat_abs c < 2 = cancel_lt p (nat_abs c) 2 (subst (λ (z : ℕ). z < 2 * p) (abs_mul c (pos p)) (small₀ p e c (pow_pos (suc n)) w.size k)) in
+    let l : nat_abs c < 2 = cancel_lt p (nat_abs c) 2 (subst (λ (z : ℕ). z < 2 * p) (abs_mul c (pos p)) (omega (zs, pow_pos (suc n), w.size, k))) in
     let m : nat_abs (pos s +ℤ c) ≤ 2 ^ 52 = omega (zs, b, l) in
-    (m, record { j = 0; unit = placed (pos s +ℤ c) 0 refl m; near = inr (corrected₀ a (s * p) p e c (c *ℤ pos p) ((pos s +ℤ c) *ℤ pos p) w.near k (dist (pos s) c (pos p))) })
+    (m, record { j = 0; unit = placed (pos s +ℤ c) 0 refl m; near = inr (omega (zs, w.near, k, dist (pos s) c (pos p))) })
   where
     placed : (w : ℤ) (j : ℕ) → j ≡ 0 → nat_abs w ≤ 2 ^ 52 → ((nat_abs w < 2 ^ 52) × (j ≡ 0)) ⊎ ((2 ^ (52 + j) ≤ nat_abs w) × (nat_abs w < 2 ^ (53 + j)))
     placed w j e h = elim (order (2 ^ 52) (nat_abs w)) [

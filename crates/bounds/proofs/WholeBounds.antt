@@ -1,21 +1,18 @@
 -- Bounds near 1 and near 0 between exact numbers, from integers over one whole number. Assumes nothing.
-use Rattle.std.proofs.Common.{◌≡◌, ℕ, zero, ◌*◌, ◌^◌, ◌<◌, ◌≤◌, ℤ, pos, ◌-ℤ◌, ◌*ℤ◌, nat_abs, refl, ap, ◌∙◌, le_trans, le_of_eq, mul_comm, mul-pos, arith, pow_pos}
-use Rattle.ieee.proofs.Ints.{zs, abs_mul}
-use Rattle.ieee.proofs.Scaled.{sub_scaled}
+use Rattle.std.proofs.Common.{ℕ, zero, ◌*◌, ◌^◌, ◌<◌, ◌≤◌, ℤ, pos, ◌-ℤ◌, ◌*ℤ◌, nat_abs, refl, ap, ◌∙◌, le_trans, le_of_eq, mul_comm, mul-pos, arith, pow_pos}
+use Rattle.std.proofs.Math.IntN.{+ℤ_idr}
+use Rattle.ieee.proofs.Ints.{abs_mul}
 use Rattle.bounds.specs.Num.{Q, whole, Within}
-use Rattle.bounds.proofs.Over.{Over, over_zero, over_scale, within_over}
+use Rattle.bounds.proofs.Over.{Over, over_zero, over_scale, within_over, scaled_abs}
 
 over_one : (k : ℕ) → Over (whole 1) (pos k) k
 over_one k = record { is = omega arith }
 
 scaled : (A : ℤ) (n m e : ℕ) → m * nat_abs (A -ℤ pos n) ≤ e * n → nat_abs (A *ℤ pos m -ℤ pos (n * m)) ≤ e * n
-scaled A n m e h = le_trans (le_of_eq (ap nat_abs (sub_scaled A (pos n) (pos m)) ∙ abs_mul (A -ℤ pos n) (pos m) ∙ mul_comm (nat_abs (A -ℤ pos n)) m)) h
+scaled A n m e h = le_trans (le_of_eq (scaled_abs A (pos n) m ∙ mul_comm (nat_abs (A -ℤ pos n)) m)) h
 
 scaled_zero : (A : ℤ) (n m e : ℕ) → m * nat_abs A ≤ e * n → nat_abs (A *ℤ pos m -ℤ pos 0) ≤ e * n
-scaled_zero A n m e h = le_trans (le_of_eq (ap nat_abs (off (A *ℤ pos m)) ∙ abs_mul A (pos m) ∙ mul_comm (nat_abs A) m)) h
-  where
-    off : (z : ℤ) → z -ℤ pos 0 ≡ z
-    off z = omega zs
+scaled_zero A n m e h = le_trans (le_of_eq (ap nat_abs (+ℤ_idr (A *ℤ pos m)) ∙ abs_mul A (pos m) ∙ mul_comm (nat_abs A) m)) h
 
 -- a is A / n, and r is e / 2 ^ j
 module _ (a r : Q) (A : ℤ) (n e j : ℕ) (N : zero < n) (h : Over a A n) (i : Over r (pos e) (2 ^ j)) where

@@ -1,9 +1,9 @@
 -- The pair for 1/x over whole numbers: x is X units of 2 ^ -1074, and 1 is L = 2 ^ 1074 units. Assumes nothing.
 use Rattle.std.proofs.Common.{◌≡◌, ℕ, ◌+◌, ◌-◌, ◌*◌, ◌%◌, ◌^◌, ◌<◌, ◌≤◌, false, ℤ, pos, ◌+ℤ◌, ◌-ℤ◌, ◌*ℤ◌, neg_ℤ, nat_abs, sym, refl, ap, ◌∙◌, subst, inl, inr, le_trans, le_of_eq, lt_of_lt_of_le, lt_of_le_of_lt, mul-le-mul_right, mul-le-mul, mul-le-mul_left, mul-pos, arith, lit<, lit≤, pow_pos, pow_mono, pow-add}
+use Rattle.std.proofs.lemmas.Nat.{mod_below}
 use lib.Pow.{pow-lt}
 use lib.Ieee.{Float, binary64, fits, of_bits, mul, div, neg}
 use lib.Ieee.Fits.{div-fits, neg-fits}
-use Rattle.std.proofs.lemmas.Nat.{mod_below}
 use Rattle.ieee.specs.Val.{val, rnd, rq, Under}
 use Rattle.ieee.specs.Pairs.{Good}
 use Rattle.ieee.specs.Meaning.{Number, Operand}
@@ -19,10 +19,14 @@ use Rattle.ieee.proofs.Middle.{to_f64}
 use Rattle.ieee.proofs.Patterns.{sized, normal, normal_value}
 use Rattle.ieee.proofs.Products.{good_times}
 use Rattle.double_double.specs.Ops.{Ops, Meaning}
-use Rattle.erfc.specs.Rows.{Argument, tail_end}
+use Rattle.erfc.specs.Rows.{Argument, fast_end, tail_end}
 use Rattle.erfc.specs.Asymptotics.{one, reciprocal}
 use Rattle.erfc.proofs.Tail.{operand}
 use Rattle.bounds.specs.Floats.{above}
+use Rattle.bounds.proofs.Sizes.{good_number}
+
+pub to_tail : {x : Float} → Argument x fast_end → Argument x tail_end
+to_tail a = record { bits = a.bits; is = a.is; first = a.first; below = lt_of_lt_of_le a.below (lit≤ tt) }
 
 -- ---- the value of a tail argument: 53 digits, of units between 2 ^ 1023 and 2 ^ 1026
 pub record TailValue (x : Float) : Type 0 where
@@ -77,11 +81,8 @@ module _ (M c P Q R t l : ℕ) (e : R * (P * Q) ≡ l * l) (f : t * l ≡ P * Q)
   rest_is : (pos R -ℤ pos (M * c)) *ℤ pos t *ℤ pos l ≡ neg_ℤ (pos (M * P)) *ℤ pos (c * Q) +ℤ pos l *ℤ pos l
   rest_is =
       massoc (pos R -ℤ pos (M * c)) (pos t) (pos l) ∙ ap (λ (g : ℕ). (pos R -ℤ pos (M * c)) *ℤ pos g) f ∙ sym (sub_scaled (pos R) (pos (M * c)) (pos (P * Q)))
-      ∙ ap (λ (g : ℕ). pos g -ℤ pos (M * c * (P * Q))) e ∙ ap (λ (g : ℕ). pos (l * l) -ℤ pos g) swap ∙ turned (pos (l * l)) (pos (M * P * (c * Q))) ∙ ap (λ (g : ℤ). g +ℤ pos (l * l)) (sym (neg_mul (pos (M * P)) (pos (c * Q))))
+      ∙ ap (λ (g : ℕ). pos g -ℤ pos (M * c * (P * Q))) e ∙ ap (λ (g : ℕ). pos (l * l) -ℤ pos g) (omega arith) ∙ turned (pos (l * l)) (pos (M * P * (c * Q))) ∙ ap (λ (g : ℤ). g +ℤ pos (l * l)) (sym (neg_mul (pos (M * P)) (pos (c * Q))))
     where
-      swap : M * c * (P * Q) ≡ M * P * (c * Q)
-      swap = omega arith
-
       turned : (a b : ℤ) → a -ℤ b ≡ neg_ℤ b +ℤ a
       turned a b = omega zs
 
@@ -128,23 +129,14 @@ rest₀ a M e i m n p q s u =
 -- ---- the bounds over whole numbers
 -- the product is 1 but for the rest
 product_near : (X Y l : ℕ) (z : ℤ) → z *ℤ pos l ≡ neg_ℤ (pos X) *ℤ pos Y +ℤ pos l *ℤ pos l → nat_abs (pos X *ℤ pos Y -ℤ pos l *ℤ pos l) ≡ nat_abs z * l
-product_near X Y l z e = go (pos X *ℤ pos Y) (pos l *ℤ pos l) (z *ℤ pos l) (e ∙ ap (λ (y : ℤ). y +ℤ pos l *ℤ pos l) (neg_mul (pos X) (pos Y))) ∙ abs_mul z (pos l)
-  where
-    go : (a b d : ℤ) → d ≡ neg_ℤ a +ℤ b → nat_abs (a -ℤ b) ≡ nat_abs d
-    go a b d e = omega zs
+product_near X Y l z e = omega (zs, e ∙ ap (λ (y : ℤ). y +ℤ pos l *ℤ pos l) (neg_mul (pos X) (pos Y))) ∙ abs_mul z (pos l)
 
 none : (X Y l : ℕ) (z : ℤ) → z *ℤ pos l ≡ neg_ℤ (pos X) *ℤ pos Y +ℤ pos l *ℤ pos l → nat_abs (z *ℤ pos l -ℤ (pos l *ℤ pos l -ℤ pos X *ℤ pos Y)) ≡ 0
-none X Y l z e = go (pos X *ℤ pos Y) (pos l *ℤ pos l) (z *ℤ pos l) (e ∙ ap (λ (y : ℤ). y +ℤ pos l *ℤ pos l) (neg_mul (pos X) (pos Y)))
-  where
-    go : (a b d : ℤ) → d ≡ neg_ℤ a +ℤ b → nat_abs (d -ℤ (b -ℤ a)) ≡ 0
-    go a b d e = omega zs
+none X Y l z e = omega (zs, e ∙ ap (λ (y : ℤ). y +ℤ pos l *ℤ pos l) (neg_mul (pos X) (pos Y)))
 
 -- x y is at most 1 + 2 ^ -53
 most : (X Y l : ℕ) (c : ℕ) → nat_abs (pos (X * Y) -ℤ pos (l * l)) ≡ c * l → 2 ^ 53 * c ≤ l → 2 ^ 53 * (X * Y) ≤ (2 ^ 53 + 1) * (l * l)
-most X Y l c e h = let w : X * Y ≤ l * l + c * l = near (X * Y) (l * l) (c * l) e in omega (arith, mul-le-mul_right l h)
-  where
-    near : (a b d : ℕ) → nat_abs (pos a -ℤ pos b) ≡ d → a ≤ b + d
-    near a b d e = omega zs
+most X Y l c e h = let w : X * Y ≤ l * l + c * l = omega (zs, e) in omega (arith, mul-le-mul_right l h)
 
 -- x times the error of the last product, f; X is at most 2 ^ 5, and 2 ^ 110 units of 2 ^ -1074 are little
 error₀ : (X Y l c f : ℕ) → 2 ^ 53 * (X * Y) ≤ (2 ^ 53 + 1) * (l * l) → 2 ^ 53 * c ≤ l → 2 ^ 53 * f ≤ Y * c + 2 ^ 52 * l → X ≤ 2 ^ 5 * l → 2 ^ 120 ≤ l → 2 ^ 106 * (X * f) ≤ 3 * (l * l * l)
@@ -172,10 +164,7 @@ split₀ X Y l w z =
     let f = abs_mul w (pos l) in
     let g = abs_mul (pos Y) z in
     let h : nat_abs (w *ℤ pos l) ≤ nat_abs (w *ℤ pos l -ℤ pos Y *ℤ z) + nat_abs (pos Y *ℤ z) = abs_back (w *ℤ pos l) (pos Y *ℤ z) in
-    go (nat_abs (pos X *ℤ w)) X Y l (nat_abs w) (nat_abs (w *ℤ pos l)) (nat_abs (w *ℤ pos l -ℤ pos Y *ℤ z)) (nat_abs (pos Y *ℤ z)) (nat_abs z) e f g h
-  where
-    go : (B X Y l w v f g z : ℕ) → B * l ≡ X * w * l → v ≡ w * l → g ≡ Y * z → v ≤ f + g → B * l ≤ X * f + X * Y * z
-    go B X Y l w v f g z e i j h = omega (arith, mul-le-mul_left X h, ap (λ (y : ℕ). X * y) i, ap (λ (y : ℕ). X * y) j)
+    omega (arith, e, f, g, h, mul-le-mul_left X h, ap (λ (y : ℕ). X * y) f, ap (λ (y : ℕ). X * y) g)
 
 -- what is used of the steps: z is the rest 1 - x y, and w rounds y z
 module _ (X Y l : ℕ) (z w : ℤ) (L : 0 < l) (r : Rest X Y l z) (e : 2 ^ 53 * nat_abs (w *ℤ pos l -ℤ pos Y *ℤ z) ≤ nat_abs (pos Y *ℤ z) + 2 ^ 52 * l) (h : X ≤ 2 ^ 5 * l) (i : 2 ^ 120 ≤ l) where
@@ -186,19 +175,13 @@ module _ (X Y l : ℕ) (z w : ℤ) (L : 0 < l) (r : Rest X Y l z) (e : 2 ^ 53 * 
   whole_error = error₀ X Y l (nat_abs z) (nat_abs (w *ℤ pos l -ℤ pos Y *ℤ z)) whole_most r.small (subst (λ (y : ℕ). 2 ^ 53 * nat_abs (w *ℤ pos l -ℤ pos Y *ℤ z) ≤ y + 2 ^ 52 * l) (abs_mul (pos Y) z) e) h i
 
   whole_high : 2 ^ 53 * nat_abs (pos X *ℤ pos Y -ℤ pos l *ℤ pos l) ≤ l * l
-  whole_high = le_trans (le_of_eq (ap (λ (y : ℕ). 2 ^ 53 * y) (product_near X Y l z r.is))) (go (nat_abs z) r.small)
-    where
-      go : (c : ℕ) → 2 ^ 53 * c ≤ l → 2 ^ 53 * (c * l) ≤ l * l
-      go c h = omega (arith, mul-le-mul_right l h)
+  whole_high = le_trans (le_of_eq (ap (λ (y : ℕ). 2 ^ 53 * y) (product_near X Y l z r.is))) (omega (arith, r.small, mul-le-mul_right l r.small))
 
   whole_near : 2 ^ 104 * nat_abs (pos X *ℤ (pos Y +ℤ w) -ℤ pos l *ℤ pos l) ≤ l * l
   whole_near =
       near₀ (nat_abs (pos X *ℤ (pos Y +ℤ w) -ℤ pos l *ℤ pos l)) (nat_abs (pos l *ℤ pos l -ℤ pos X *ℤ pos Y)) (nat_abs z) X (nat_abs (w *ℤ pos l -ℤ pos Y *ℤ z)) l L
       (subst (λ (y : ℕ). nat_abs (pos X *ℤ (pos Y +ℤ w) -ℤ pos l *ℤ pos l) * l ≤ l * y + nat_abs (pos l *ℤ pos l -ℤ pos X *ℤ pos Y) * nat_abs z + X * nat_abs (w *ℤ pos l -ℤ pos Y *ℤ z)) (none X Y l z r.is) (recip_off (pos X) (pos Y) w z (pos l)))
-      (other (pos l *ℤ pos l) (pos X *ℤ pos Y) ∙ product_near X Y l z r.is) r.small whole_error
-    where
-      other : (a b : ℤ) → nat_abs (a -ℤ b) ≡ nat_abs (b -ℤ a)
-      other a b = omega zs
+      (omega zs ∙ product_near X Y l z r.is) r.small whole_error
 
   whole_low : 2 ^ 55 * nat_abs (pos X *ℤ w) ≤ 5 * (l * l)
   whole_low = low₀ (nat_abs (pos X *ℤ w)) (nat_abs z) X Y (nat_abs (w *ℤ pos l -ℤ pos Y *ℤ z)) l L (split₀ X Y l w z) whole_most r.small whole_error
@@ -216,7 +199,7 @@ pub record Inverse (x lo hi : Float) : Type 0 where
   pub high_near : 2 ^ 53 * nat_abs (pos X *ℤ val hi -ℤ pos (2 ^ 1074) *ℤ pos (2 ^ 1074)) ≤ 2 ^ 1074 * 2 ^ 1074
   pub low_small : 2 ^ 55 * nat_abs (pos X *ℤ val lo) ≤ 5 * (2 ^ 1074 * 2 ^ 1074)
 
-pub one_is : val one ≡ pos (2 ^ 1074)
+one_is : val one ≡ pos (2 ^ 1074)
 unfolding of_bits
 one_is = refl
 
@@ -231,10 +214,13 @@ tail_least M e t h k = omega (arith, pow-add 2 52 t, mul-le-mul h (pow_mono k))
 tail_greatest : (M e t : ℕ) → M < 2 ^ 53 → e ≤ t → M * 2 ^ e ≤ 2 ^ (53 + t)
 tail_greatest M e t h k = let m : M ≤ 2 ^ 53 = omega arith in omega (arith, pow-add 2 53 t, mul-le-mul m (pow_mono k))
 
-pub tail_positive : (x : Float) → Argument x tail_end → 0 < above (val x)
-tail_positive x a =
+pub tail_bounds : (x : Float) → Argument x tail_end → (2 ^ 1074 ≤ above (val x)) × (above (val x) ≤ 2 ^ 5 * 2 ^ 1074)
+tail_bounds x a =
     let v = tail_value x a in
-    subst (λ (z : ℤ). 0 < above z) (sym v.is) (lt_of_lt_of_le (pow_pos 1074) (le_trans (lit≤ tt) (tail_least v.M v.e 1023 v.low v.first)))
+    subst (λ (z : ℤ). (2 ^ 1074 ≤ above z) × (above z ≤ 2 ^ 5 * 2 ^ 1074)) (sym v.is) (le_trans (lit≤ tt) (tail_least v.M v.e 1023 v.low v.first), tail_greatest v.M v.e 1026 v.high v.last)
+
+pub tail_positive : (x : Float) → Argument x tail_end → 0 < above (val x)
+tail_positive x a = lt_of_lt_of_le (pow_pos 1074) (tail_bounds x a).0
 
 -- the quotient
 quotient : (x : Float) (X : ℕ) → Operand x → val x ≡ pos X → 2 ^ 1074 ≤ X → Good (div binary64 one x) 1075 × (val (div binary64 one x) ≡ pos (rnd (2 ^ 1074 * 2 ^ 1074) X))
@@ -247,10 +233,7 @@ quotient x X p v h =
 
 -- x y is not near zero
 settled : (X Y n b : ℕ) → 2 ^ 53 * nat_abs (pos X *ℤ pos Y -ℤ pos n) ≤ n → 2 * b ≤ n → b ≤ nat_abs (neg_ℤ (pos X) *ℤ pos Y)
-settled X Y n b h k = le_trans (go (X * Y) n b h k) (le_of_eq (sym (abs_mul (neg_ℤ (pos X)) (pos Y) ∙ ap (λ (z : ℕ). z * Y) (abs_neg (pos X)))))
-  where
-    go : (a n b : ℕ) → 2 ^ 53 * nat_abs (pos a -ℤ pos n) ≤ n → 2 * b ≤ n → b ≤ a
-    go a n b h k = omega zs
+settled X Y n b h k = le_trans (omega (zs, h, k)) (le_of_eq (sym (abs_mul (neg_ℤ (pos X)) (pos Y) ∙ ap (λ (z : ℕ). z * Y) (abs_neg (pos X)))))
 
 module _ {S : Type 0} (o : Ops S) (m : Meaning o) where
   pub inverse : (s : S) (x : Float) → Argument x tail_end → Inverse x (reciprocal o s x).1.lo (reciprocal o s x).1.hi
@@ -269,8 +252,8 @@ module _ {S : Type 0} (o : Ops S) (m : Meaning o) where
       let pn : Operand (neg x) = record { holds = neg-fits binary64 x p.holds; number = finite_neg x p.number; small = subst (λ (k : ℕ). k ≤ 2 ^ 1474) (sym (ap nat_abs (val_neg x) ∙ abs_neg (val x))) p.small } in
       let py : Operand y = record { holds = q.0.holds; number = q.0.number; small = le_trans q.0.small (lit≤ tt) } in
       let c = m.multiply_add s (neg x) y one pn py one_operand in
-      let H = settled X Y (2 ^ 1074 * 2 ^ 1074) (2 ^ 1248) (le_trans (le_of_eq (ap (λ (k : ℕ). 2 ^ 53 * k) (product_near X Y (2 ^ 1074) z.0 z.1.is))) (rest_high (nat_abs z.0) (2 ^ 1074) z.1.small)) (lit≤ tt) in
-      let zl : nat_abs z.0 ≤ 2 ^ 1074 = le_trans (weak (nat_abs z.0)) z.1.small in
+      let H = settled X Y (2 ^ 1074 * 2 ^ 1074) (2 ^ 1248) (le_trans (le_of_eq (ap (λ (k : ℕ). 2 ^ 53 * k) (product_near X Y (2 ^ 1074) z.0 z.1.is))) (omega (arith, z.1.small, mul-le-mul_right (2 ^ 1074) z.1.small))) (lit≤ tt) in
+      let zl : nat_abs z.0 ≤ 2 ^ 1074 = le_trans (omega arith) z.1.small in
       let r : val (o.multiply_add s (neg x) y one).1 ≡ z.0 = c.exact (inr (subst (λ (k : ℤ). 2 ^ 1248 ≤ nat_abs k) (sym (λ i. n i *ℤ q.1 i)) H)) z.0 (to_f64 z.0 z.1.holds (lt_of_le_of_lt zl (lit< tt))) (z.1.is ∙ sym (λ i. n i *ℤ q.1 i +ℤ one_is i *ℤ pos (2 ^ 1074))) in
       let P : Number (o.multiply_add s (neg x) y one).1 = c.answer in
       let w = good_times y (o.multiply_add s (neg x) y one).1 1075 1074 1075 q.0 (record { holds = P.holds; number = P.number; small = subst (λ (k : ℤ). nat_abs k ≤ 2 ^ 1074) (sym r) zl }) refl (lit< tt) in
@@ -282,15 +265,9 @@ module _ {S : Type 0} (o : Ops S) (m : Meaning o) where
         is = v.is;
         least = g;
         greatest = h;
-        low = record { holds = w.0.holds; number = w.0.number };
-        high = record { holds = q.0.holds; number = q.0.number };
+        low = good_number w.0;
+        high = good_number q.0;
         near = subst (λ (k : ℤ). 2 ^ 104 * nat_abs (pos X *ℤ (k +ℤ W) -ℤ pos (2 ^ 1074) *ℤ pos (2 ^ 1074)) ≤ 2 ^ 1074 * 2 ^ 1074) (sym q.1) (whole_near X Y (2 ^ 1074) z.0 W (pow_pos 1074) z.1 E h (lit≤ tt));
         high_near = subst (λ (k : ℤ). 2 ^ 53 * nat_abs (pos X *ℤ k -ℤ pos (2 ^ 1074) *ℤ pos (2 ^ 1074)) ≤ 2 ^ 1074 * 2 ^ 1074) (sym q.1) (whole_high X Y (2 ^ 1074) z.0 W (pow_pos 1074) z.1 E h (lit≤ tt));
         low_small = whole_low X Y (2 ^ 1074) z.0 W (pow_pos 1074) z.1 E h (lit≤ tt);
       }
-    where
-      rest_high : (c l : ℕ) → 2 ^ 53 * c ≤ l → 2 ^ 53 * (c * l) ≤ l * l
-      rest_high c l h = omega (arith, mul-le-mul_right l h)
-
-      weak : (c : ℕ) → c ≤ 2 ^ 53 * c
-      weak c = omega arith

@@ -1,9 +1,9 @@
 -- The square of the pair for 1/x over whole numbers. Assumes nothing.
-use Rattle.std.proofs.Common.{◌≡◌, ℕ, ◌+◌, ◌*◌, ◌^◌, ◌<◌, ◌≤◌, ℤ, pos, ◌+ℤ◌, ◌-ℤ◌, ◌*ℤ◌, nat_abs, sym, ap, ◌∙◌, subst, le_trans, le_of_eq, mul-le-mul_right, mul-le-mul, mul-le-mul_left, one-mul, arith}
+use Rattle.std.proofs.Common.{◌≡◌, ℕ, ◌+◌, ◌*◌, ◌^◌, ◌<◌, ◌≤◌, ℤ, pos, ◌+ℤ◌, ◌-ℤ◌, ◌*ℤ◌, nat_abs, ap, ◌∙◌, subst, le_trans, le_of_eq, mul-le-mul_right, mul-le-mul, mul-le-mul_left, arith}
 use Rattle.ieee.proofs.Ints.{zs, abs_mul, cancel_le}
 use Rattle.ieee.proofs.Product.{dist_left}
-use Rattle.ieee.proofs.Scaled.{sub_scaled}
 use Rattle.ieee.proofs.Tools.{poly, lin, triangle, abs_add}
+use Rattle.bounds.proofs.Over.{scaled_abs}
 
 -- ---- squares near n n
 -- |a a - n n| by d = |a - n|
@@ -14,10 +14,7 @@ square_off a n = go (a -ℤ pos n) (identity a (pos n))
     identity a n = simp poly (omega lin)
 
     go : (d : ℤ) → a *ℤ a -ℤ pos (n * n) ≡ d *ℤ (d +ℤ (pos n +ℤ pos n)) → nat_abs (a *ℤ a -ℤ pos (n * n)) ≤ nat_abs d * (nat_abs d + 2 * n)
-    go d e = le_trans (le_of_eq (ap nat_abs e ∙ abs_mul d (d +ℤ (pos n +ℤ pos n)))) (mul-le-mul_left (nat_abs d) (size d n))
-      where
-        size : (d : ℤ) (n : ℕ) → nat_abs (d +ℤ (pos n +ℤ pos n)) ≤ nat_abs d + 2 * n
-        size d n = omega triangle
+    go d e = le_trans (le_of_eq (ap nat_abs e ∙ abs_mul d (d +ℤ (pos n +ℤ pos n)))) (mul-le-mul_left (nat_abs d) (omega triangle))
 
 high_square : (s d n : ℕ) → s ≤ d * (d + 2 * n) → 2 ^ 53 * d ≤ n → 2 ^ 106 * s ≤ (2 ^ 54 + 1) * (n * n)
 high_square s d n h k =
@@ -33,11 +30,8 @@ pair_square s d n h k =
 -- a = x yh and b = x yl, where 1 is n
 module _ (a b : ℤ) (n : ℕ) (h : 2 ^ 53 * nat_abs (a -ℤ pos n) ≤ n) (k : 2 ^ 55 * nat_abs b ≤ 5 * n) where
   cross_small : 2 ^ 108 * nat_abs (a *ℤ b +ℤ a *ℤ b) ≤ 10 * ((2 ^ 53 + 1) * (n * n))
-  cross_small = go (nat_abs (a *ℤ b +ℤ a *ℤ b)) (nat_abs (a *ℤ b)) (nat_abs a) (nat_abs b) (abs_add (a *ℤ b) (a *ℤ b)) (abs_mul a b) (most a n h) k
+  cross_small = go (nat_abs (a *ℤ b +ℤ a *ℤ b)) (nat_abs (a *ℤ b)) (nat_abs a) (nat_abs b) (abs_add (a *ℤ b) (a *ℤ b)) (abs_mul a b) (omega (zs, h)) k
     where
-      most : (a : ℤ) (n : ℕ) → 2 ^ 53 * nat_abs (a -ℤ pos n) ≤ n → 2 ^ 53 * nat_abs a ≤ (2 ^ 53 + 1) * n
-      most a n h = omega zs
-
       go : (q r a b : ℕ) → q ≤ r + r → r ≡ a * b → 2 ^ 53 * a ≤ (2 ^ 53 + 1) * n → 2 ^ 55 * b ≤ 5 * n → 2 ^ 108 * q ≤ 10 * ((2 ^ 53 + 1) * (n * n))
       go q r a b h e i k = let p : 2 ^ 53 * a * (2 ^ 55 * b) ≤ (2 ^ 53 + 1) * n * (5 * n) = mul-le-mul i k in omega arith
 
@@ -82,16 +76,10 @@ module _ (u v w p q b : ℤ) (N f : ℕ)
       go p N h e = let e₁ = ap nat_abs e in omega triangle
 
   u_near : 2 ^ 60 * nat_abs (u -ℤ p) ≤ (2 ^ 7 + 1) * N
-  u_near = go (nat_abs (u -ℤ p)) (nat_abs p) N f h₁ p_most k₅
-    where
-      go : (d p N f : ℕ) → 2 ^ 53 * d ≤ p + 2 ^ 52 * f → 2 ^ 53 * p ≤ (2 ^ 53 + 3) * N → 2 ^ 200 * f ≤ N → 2 ^ 60 * d ≤ (2 ^ 7 + 1) * N
-      go d p N f a b c = omega arith
+  u_near = omega (arith, h₁, p_most, k₅)
 
   pair_near : 2 ^ 103 * nat_abs (u +ℤ v -ℤ p) ≤ N
-  pair_near = go (nat_abs (u +ℤ v -ℤ p)) (nat_abs p) N f h₂ p_most k₅
-    where
-      go : (d p N f : ℕ) → 2 ^ 104 * d ≤ p + 2 ^ 108 * f → 2 ^ 53 * p ≤ (2 ^ 53 + 3) * N → 2 ^ 200 * f ≤ N → 2 ^ 103 * d ≤ N
-      go d p N f a b c = omega arith
+  pair_near = omega (arith, h₂, p_most, k₅)
 
   v_small : 2 ^ 60 * nat_abs v ≤ (2 ^ 7 + 2) * N
   v_small = go u v p u_near pair_near (step_2 u v p)
@@ -101,34 +89,23 @@ module _ (u v w p q b : ℤ) (N f : ℕ)
 
   -- 2 * 5 * 2 ^ -55 and 2 ^ -53, and a little more
   low_sum : 2 ^ 56 * nat_abs (q +ℤ v) ≤ 29 * N
-  low_sum = go q v k₂ v_small
-    where
-      go : (q v : ℤ) → 2 ^ 108 * nat_abs q ≤ 10 * ((2 ^ 53 + 1) * N) → 2 ^ 60 * nat_abs v ≤ (2 ^ 7 + 2) * N → 2 ^ 56 * nat_abs (q +ℤ v) ≤ 29 * N
-      go q v a b = omega triangle
+  low_sum = omega (triangle, k₂, v_small)
 
   madd_near : 2 ^ 103 * nat_abs (w -ℤ (q +ℤ v)) ≤ N
-  madd_near = go (nat_abs (w -ℤ (q +ℤ v))) (nat_abs (q +ℤ v)) (nat_abs q) (nat_abs v) h₃ low_sum k₂ v_small
-    where
-      go : (d s q v : ℕ) → 2 ^ 103 * d ≤ 2 ^ 50 * s + (q + v) + 2 ^ 107 * f → 2 ^ 56 * s ≤ 29 * N → 2 ^ 108 * q ≤ 10 * ((2 ^ 53 + 1) * N) → 2 ^ 60 * v ≤ (2 ^ 7 + 2) * N → 2 ^ 103 * d ≤ N
-      go d s q v a b c e = omega arith
+  madd_near = omega (arith, h₃, low_sum, k₂, v_small)
 
-  pub total_high : 2 ^ 53 * nat_abs (u -ℤ pos N) ≤ 4 * N
-  total_high = go u p (ap nat_abs (step_3 u p (pos N))) u_near k₁
-    where
-      go : (u p : ℤ) → nat_abs (u -ℤ pos N) ≡ nat_abs ((u -ℤ p) +ℤ (p -ℤ pos N)) → 2 ^ 60 * nat_abs (u -ℤ p) ≤ (2 ^ 7 + 1) * N → 2 ^ 106 * nat_abs (p -ℤ pos N) ≤ (2 ^ 54 + 1) * N → 2 ^ 53 * nat_abs (u -ℤ pos N) ≤ 4 * N
-      go u p e a b = omega (arith, abs_add (u -ℤ p) (p -ℤ pos N))
+  total_high : 2 ^ 53 * nat_abs (u -ℤ pos N) ≤ 4 * N
+  total_high = omega (arith, ap nat_abs (step_3 u p (pos N)), u_near, k₁, abs_add (u -ℤ p) (p -ℤ pos N))
 
-  pub total_low : 2 ^ 51 * nat_abs w ≤ N
-  total_low = go w (q +ℤ v) (ap nat_abs (step_1 w (q +ℤ v))) madd_near low_sum
-    where
-      go : (w s : ℤ) → nat_abs w ≡ nat_abs ((w -ℤ s) +ℤ s) → 2 ^ 103 * nat_abs (w -ℤ s) ≤ N → 2 ^ 56 * nat_abs s ≤ 29 * N → 2 ^ 51 * nat_abs w ≤ N
-      go w s e a b = omega (arith, abs_add (w -ℤ s) s)
+  total_low : 2 ^ 51 * nat_abs w ≤ 1 * N
+  total_low = omega (arith, ap nat_abs (step_1 w (q +ℤ v)), madd_near, low_sum, abs_add (w -ℤ (q +ℤ v)) (q +ℤ v))
 
-  pub total_near : 2 ^ 98 * nat_abs (u +ℤ w -ℤ pos N) ≤ N
-  total_near = go (u +ℤ w -ℤ pos N) (w -ℤ (q +ℤ v)) (u +ℤ v -ℤ p) (p +ℤ q +ℤ b -ℤ pos N) b (ap nat_abs (step_4 u v w p q b (pos N))) madd_near pair_near k₃ k₄
-    where
-      go : (d a c e b : ℤ) → nat_abs d ≡ nat_abs (a +ℤ c +ℤ (e -ℤ b)) → 2 ^ 103 * nat_abs a ≤ N → 2 ^ 103 * nat_abs c ≤ N → 2 ^ 104 * nat_abs e ≤ 3 * N → 2 ^ 110 * nat_abs b ≤ 25 * N → 2 ^ 98 * nat_abs d ≤ N
-      go d a c e b i h₁ h₂ h₃ h₄ = omega triangle
+  total_near : 2 ^ 98 * nat_abs (u +ℤ w -ℤ pos N) ≤ 1 * N
+  total_near = omega (triangle, ap nat_abs (step_4 u v w p q b (pos N)), madd_near, pair_near, k₃, k₄)
+
+  -- all three
+  pub totals : (2 ^ 53 * nat_abs (u -ℤ pos N) ≤ 4 * N) × ((2 ^ 51 * nat_abs w ≤ 1 * N) × (2 ^ 98 * nat_abs (u +ℤ w -ℤ pos N) ≤ 1 * N))
+  totals = (total_high, (total_low, total_near))
 
 -- ---- x² times the steps
 module _ (x y y' g g' i l : ℤ) where
@@ -159,31 +136,18 @@ module _ (x y y' g g' i l : ℤ) where
 times : (X : ℕ) (z : ℤ) {w : ℤ} → w ≡ pos X *ℤ pos X *ℤ z → nat_abs w ≡ X * X * nat_abs z
 times X z e = ap nat_abs e ∙ abs_mul (pos X *ℤ pos X) z
 
-times_1 : (k d p l d' p' : ℕ) → d' ≡ k * d → p' ≡ k * p → 2 ^ 53 * d ≤ p + 2 ^ 52 * l → 2 ^ 53 * d' ≤ p' + 2 ^ 52 * (k * l)
-times_1 k d p l d' p' a b h = omega (arith, mul-le-mul_left k h)
-
-times_2 : (k d p l d' p' : ℕ) → d' ≡ k * d → p' ≡ k * p → 2 ^ 104 * d ≤ p + 2 ^ 108 * l → 2 ^ 104 * d' ≤ p' + 2 ^ 108 * (k * l)
-times_2 k d p l d' p' a b h = omega (arith, mul-le-mul_left k h)
+times_error : (t u k d p l d' p' : ℕ) → d' ≡ k * d → p' ≡ k * p → t * d ≤ p + u * l → t * d' ≤ p' + u * (k * l)
+times_error t u k d p l d' p' a b h = rw (a, b) (omega (arith, mul-le-mul_left k h))
 
 times_3 : (k d s q v l d' s' q' v' : ℕ) → d' ≡ k * d → s' ≡ k * s → q' ≡ k * q → v' ≡ k * v → 2 ^ 103 * d ≤ 2 ^ 50 * s + (q + v) + 2 ^ 107 * l → 2 ^ 103 * d' ≤ 2 ^ 50 * s' + (q' + v') + 2 ^ 107 * (k * l)
 times_3 k d s q v l d' s' q' v' a b c e h = omega (arith, mul-le-mul_left k h)
 
 -- one factor l less
+less : (t c l D d : ℕ) → 0 < l → D ≡ d * l → t * D ≤ c * (l * l * (l * l)) → t * d ≤ c * (l * l * l)
+less t c l D d L e h = cancel_le l (t * d) (c * (l * l * l)) L (omega (arith, h, ap (λ (n : ℕ). t * n) e))
+
 less_one : (z : ℤ) (t c l : ℕ) → 0 < l → t * nat_abs (z *ℤ pos l -ℤ pos (l * l * (l * l))) ≤ c * (l * l * (l * l)) → t * nat_abs (z -ℤ pos (l * l * l)) ≤ c * (l * l * l)
-less_one z t c l L h =
-    go (nat_abs (z *ℤ pos l -ℤ pos (l * l * (l * l)))) (nat_abs (z -ℤ pos (l * l * l))) (ap (λ (n : ℕ). nat_abs (z *ℤ pos l -ℤ pos n)) four ∙ ap nat_abs (sub_scaled z (pos (l * l * l)) (pos l)) ∙ abs_mul (z -ℤ pos (l * l * l)) (pos l)) h
-  where
-    four : l * l * (l * l) ≡ l * l * l * l
-    four = omega arith
-
-    go : (D d : ℕ) → D ≡ d * l → t * D ≤ c * (l * l * (l * l)) → t * d ≤ c * (l * l * l)
-    go D d e h = cancel_le l (t * d) (c * (l * l * l)) L (omega (arith, ap (λ (n : ℕ). t * n) e))
-
-less_low : (z : ℤ) (t l : ℕ) → 0 < l → t * nat_abs (z *ℤ pos l) ≤ l * l * (l * l) → t * nat_abs z ≤ 1 * (l * l * l)
-less_low z t l L h = go (nat_abs (z *ℤ pos l)) (nat_abs z) (abs_mul z (pos l)) h
-  where
-    go : (D d : ℕ) → D ≡ d * l → t * D ≤ l * l * (l * l) → t * d ≤ 1 * (l * l * l)
-    go D d e h = cancel_le l (t * d) (1 * (l * l * l)) L (omega (arith, ap (λ (n : ℕ). t * n) e))
+less_one z t c l L h = less t c l (nat_abs (z *ℤ pos l -ℤ pos (l * l * (l * l)))) (nat_abs (z -ℤ pos (l * l * l))) L (ap (λ (n : ℕ). nat_abs (z *ℤ pos l -ℤ pos n)) (omega arith) ∙ scaled_abs z (pos (l * l * l)) l) h
 
 -- X is at most 2 ^ 5, so x² units are little
 unit_small : (X l : ℕ) → X ≤ 2 ^ 5 * l → 2 ^ 210 ≤ l → 2 ^ 200 * (X * X * l) ≤ l * l * (l * l)
@@ -198,10 +162,10 @@ module _ (X l : ℕ) (y y' g g' i : ℤ)
     (near : 2 ^ 104 * nat_abs (pos X *ℤ (y +ℤ y') -ℤ pos l *ℤ pos l) ≤ l * l) (high_near : 2 ^ 53 * nat_abs (pos X *ℤ y -ℤ pos l *ℤ pos l) ≤ l * l) (low_small : 2 ^ 55 * nat_abs (pos X *ℤ y') ≤ 5 * (l * l))
     (greatest : X ≤ 2 ^ 5 * l) (large : 2 ^ 210 ≤ l) where
   h₁ : 2 ^ 53 * nat_abs (pos X *ℤ pos X *ℤ g *ℤ pos l -ℤ pos X *ℤ y *ℤ (pos X *ℤ y)) ≤ nat_abs (pos X *ℤ y *ℤ (pos X *ℤ y)) + 2 ^ 52 * (X * X * l)
-  h₁ = times_1 (X * X) (nat_abs (g *ℤ pos l -ℤ y *ℤ y)) (nat_abs (y *ℤ y)) l _ _ (times X (g *ℤ pos l -ℤ y *ℤ y) (id_u (pos X) y y' g g' i (pos l))) (times X (y *ℤ y) (id_p (pos X) y y' g g' i (pos l))) e₁
+  h₁ = times_error (2 ^ 53) (2 ^ 52) (X * X) (nat_abs (g *ℤ pos l -ℤ y *ℤ y)) (nat_abs (y *ℤ y)) l _ _ (times X (g *ℤ pos l -ℤ y *ℤ y) (id_u (pos X) y y' g g' i (pos l))) (times X (y *ℤ y) (id_p (pos X) y y' g g' i (pos l))) e₁
 
   h₂ : 2 ^ 104 * nat_abs (pos X *ℤ pos X *ℤ g *ℤ pos l +ℤ pos X *ℤ pos X *ℤ g' *ℤ pos l -ℤ pos X *ℤ y *ℤ (pos X *ℤ y)) ≤ nat_abs (pos X *ℤ y *ℤ (pos X *ℤ y)) + 2 ^ 108 * (X * X * l)
-  h₂ = times_2 (X * X) (nat_abs ((g +ℤ g') *ℤ pos l -ℤ y *ℤ y)) (nat_abs (y *ℤ y)) l _ _ (times X ((g +ℤ g') *ℤ pos l -ℤ y *ℤ y) (id_uv (pos X) y y' g g' i (pos l))) (times X (y *ℤ y) (id_p (pos X) y y' g g' i (pos l))) e₂
+  h₂ = times_error (2 ^ 104) (2 ^ 108) (X * X) (nat_abs ((g +ℤ g') *ℤ pos l -ℤ y *ℤ y)) (nat_abs (y *ℤ y)) l _ _ (times X ((g +ℤ g') *ℤ pos l -ℤ y *ℤ y) (id_uv (pos X) y y' g g' i (pos l))) (times X (y *ℤ y) (id_p (pos X) y y' g g' i (pos l))) e₂
 
   -- 2 x² yh yl
   abbrev cross : ℤ
@@ -224,20 +188,15 @@ module _ (X l : ℕ) (y y' g g' i : ℤ)
   k₄ : 2 ^ 110 * nat_abs (pos X *ℤ y' *ℤ (pos X *ℤ y')) ≤ 25 * (l * l * (l * l))
   k₄ = low_square (pos X *ℤ y) (pos X *ℤ y') (l * l) high_near low_small
 
+  bounds : (2 ^ 53 * nat_abs (pos X *ℤ pos X *ℤ g *ℤ pos l -ℤ pos (l * l * (l * l))) ≤ 4 * (l * l * (l * l))) × ((2 ^ 51 * nat_abs (pos X *ℤ pos X *ℤ i *ℤ pos l) ≤ 1 * (l * l * (l * l))) × (2 ^ 98 * nat_abs (pos X *ℤ pos X *ℤ g *ℤ pos l +ℤ pos X *ℤ pos X *ℤ i *ℤ pos l -ℤ pos (l * l * (l * l))) ≤ 1 * (l * l * (l * l))))
+  bounds = totals (pos X *ℤ pos X *ℤ g *ℤ pos l) (pos X *ℤ pos X *ℤ g' *ℤ pos l) (pos X *ℤ pos X *ℤ i *ℤ pos l) (pos X *ℤ y *ℤ (pos X *ℤ y)) cross (pos X *ℤ y' *ℤ (pos X *ℤ y')) (l * l * (l * l)) (X * X * l) h₁ h₂ h₃ k₁ k₂ k₃ k₄ (unit_small X l greatest large)
+
   module _ (L : 0 < l) where
     pub square_high_near : 2 ^ 53 * nat_abs (pos X *ℤ pos X *ℤ g -ℤ pos (l * l * l)) ≤ 4 * (l * l * l)
-    square_high_near =
-        less_one (pos X *ℤ pos X *ℤ g) (2 ^ 53) 4 l L
-        (total_high (pos X *ℤ pos X *ℤ g *ℤ pos l) (pos X *ℤ pos X *ℤ g' *ℤ pos l) (pos X *ℤ pos X *ℤ i *ℤ pos l) (pos X *ℤ y *ℤ (pos X *ℤ y)) cross (pos X *ℤ y' *ℤ (pos X *ℤ y')) (l * l * (l * l)) (X * X * l) h₁ h₂ h₃ k₁ k₂ k₃ k₄ (unit_small X l greatest large))
+    square_high_near = less_one (pos X *ℤ pos X *ℤ g) (2 ^ 53) 4 l L bounds.0
 
     pub square_low_small : 2 ^ 51 * nat_abs (pos X *ℤ pos X *ℤ i) ≤ 1 * (l * l * l)
-    square_low_small =
-        less_low (pos X *ℤ pos X *ℤ i) (2 ^ 51) l L
-        (total_low (pos X *ℤ pos X *ℤ g *ℤ pos l) (pos X *ℤ pos X *ℤ g' *ℤ pos l) (pos X *ℤ pos X *ℤ i *ℤ pos l) (pos X *ℤ y *ℤ (pos X *ℤ y)) cross (pos X *ℤ y' *ℤ (pos X *ℤ y')) (l * l * (l * l)) (X * X * l) h₁ h₂ h₃ k₁ k₂ k₃ k₄ (unit_small X l greatest large))
+    square_low_small = less (2 ^ 51) 1 l (nat_abs (pos X *ℤ pos X *ℤ i *ℤ pos l)) (nat_abs (pos X *ℤ pos X *ℤ i)) L (abs_mul (pos X *ℤ pos X *ℤ i) (pos l)) bounds.1.0
 
     pub square_pair_near : 2 ^ 98 * nat_abs (pos X *ℤ pos X *ℤ (g +ℤ i) -ℤ pos (l * l * l)) ≤ 1 * (l * l * l)
-    square_pair_near =
-        less_one (pos X *ℤ pos X *ℤ (g +ℤ i)) (2 ^ 98) 1 l L
-        (le_trans (le_of_eq (ap (λ (z : ℤ). 2 ^ 98 * nat_abs (z -ℤ pos (l * l * (l * l)))) (id_t (pos X) y y' g g' i (pos l))))
-        (le_trans (total_near (pos X *ℤ pos X *ℤ g *ℤ pos l) (pos X *ℤ pos X *ℤ g' *ℤ pos l) (pos X *ℤ pos X *ℤ i *ℤ pos l) (pos X *ℤ y *ℤ (pos X *ℤ y)) cross (pos X *ℤ y' *ℤ (pos X *ℤ y')) (l * l * (l * l)) (X * X * l) h₁ h₂ h₃ k₁ k₂ k₃ k₄ (unit_small X l greatest large))
-        (le_of_eq (sym (one-mul (l * l * (l * l)))))))
+    square_pair_near = less_one (pos X *ℤ pos X *ℤ (g +ℤ i)) (2 ^ 98) 1 l L (le_trans (le_of_eq (ap (λ (z : ℤ). 2 ^ 98 * nat_abs (z -ℤ pos (l * l * (l * l)))) (id_t (pos X) y y' g g' i (pos l)))) bounds.1.1)

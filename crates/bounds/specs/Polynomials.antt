@@ -28,20 +28,6 @@ fast_limit = whole 23 ⊗ tiny 73
 abbrev pub accurate_limit : Q
 accurate_limit = tiny 90
 
--- count single numbers of an accurate row from number n on
-abbrev pub singles : ℕ → ℕ → ℕ → List Q
-singles row n zero = []
-singles row n (suc count) = exactly (accurate_number row n) ∷ singles row (suc n) count
-
--- count coefficients of two numbers each, from the i-th on, before the rest
-abbrev pub doubles : ℕ → ℕ → ℕ → List Q → List Q
-doubles row i zero rest = rest
-doubles row i (suc count) rest = (exactly (accurate_number row (2 * i)) ⊕ exactly (accurate_number row (2 * i + 1))) ∷ doubles row (suc i) count rest
-
--- of an accurate row: six coefficients of two numbers each, then 9 + row single ones
-abbrev pub accurate_coefficients : ℕ → List Q
-accurate_coefficients row = doubles row 0 6 (singles row 12 (9 + row))
-
 -- count numbers of a table, from number n on
 abbrev pub singles_of : (ℕ → Float) → ℕ → ℕ → List Q
 singles_of table n zero = []
@@ -51,3 +37,7 @@ singles_of table n (suc count) = exactly (table n) ∷ singles_of table (suc n) 
 abbrev pub doubles_of : (ℕ → Float) → ℕ → ℕ → List Q → List Q
 doubles_of table i zero rest = rest
 doubles_of table i (suc count) rest = (exactly (table (2 * i)) ⊕ exactly (table (2 * i + 1))) ∷ doubles_of table (suc i) count rest
+
+-- of an accurate row: six coefficients of two numbers each, then 9 + row single ones
+abbrev pub accurate_coefficients : ℕ → List Q
+accurate_coefficients row = doubles_of (accurate_number row) 0 6 (singles_of (accurate_number row) 12 (9 + row))

@@ -1,5 +1,5 @@
 // A third arithmetic, with a state: it answers as plain and as fused in turn, and counts its calls.
-ghost use Rattle.std.specs.Prelude.{◌≡◌};
+ghost use Rattle.std.specs.Prelude.{◌≡◌, true, false};
 ghost use Rattle.checks.specs.Alternating.{passed, alternating_ops};
 ghost use Rattle.checks.specs.AlternatingMeaning.{alternating_meaning};
 
@@ -15,15 +15,18 @@ pub struct Alternating {
 }
 
 impl Alternating {
-    // Counts a call, and says whether it is fused's turn.
-    fn turn(&mut self) -> bool
-        ensures value { result ≡ self.old.fused }
+    // Counts a call, and answers as fused or as plain, whose turn it is.
+    fn in_turn<T, F: FnOnce() -> T, P: FnOnce() -> T>(&mut self, fused: F, plain: P) -> T
+        requires fused_answers { F.IsAlwaysCallable fused }
+        requires plain_answers { P.IsAlwaysCallable plain }
+        ensures as_fused { self.old.fused ≡ true → F.post fused result }
+        ensures as_plain { self.old.fused ≡ false → P.post plain result }
         ensures after { self.new ≡ passed self.old }
     {
-        let fused = self.fused;
-        self.fused = !fused;
+        let is_fused = self.fused;
+        self.fused = !is_fused;
         self.calls = self.calls.wrapping_add(1);
-        fused
+        if is_fused { fused() } else { plain() }
     }
 }
 
@@ -31,45 +34,28 @@ impl Arithmetic for Alternating {
     // its bits are compared with nothing
     const COMPARED_BELOW: u64 = 0;
 
-    ghost compared_below = { 0 };
+    ghost COMPARED_BELOW = { 0 };
 
     ghost ops = { alternating_ops };
 
     ghost meaning = { alternating_meaning };
 
-    fn comparison_end() -> u64 {
-        Self::COMPARED_BELOW
-    }
-
     fn from_exact_mult(&mut self, a: f64, b: f64) -> DoubleDouble {
-        if self.turn() {
-            <Fused as Arithmetic>::from_exact_mult(&mut Fused, a, b)
-        } else {
-            <Plain as Arithmetic>::from_exact_mult(&mut Plain, a, b)
-        }
+        self.in_turn(
+            || Fused.from_exact_mult(a, b),
+            || Plain.from_exact_mult(a, b),
+        )
     }
 
     fn quick_mult(&mut self, a: DoubleDouble, b: DoubleDouble) -> DoubleDouble {
-        if self.turn() {
-            <Fused as Arithmetic>::quick_mult(&mut Fused, a, b)
-        } else {
-            <Plain as Arithmetic>::quick_mult(&mut Plain, a, b)
-        }
+        self.in_turn(|| Fused.quick_mult(a, b), || Plain.quick_mult(a, b))
     }
 
     fn quick_mult_f64(&mut self, a: DoubleDouble, b: f64) -> DoubleDouble {
-        if self.turn() {
-            <Fused as Arithmetic>::quick_mult_f64(&mut Fused, a, b)
-        } else {
-            <Plain as Arithmetic>::quick_mult_f64(&mut Plain, a, b)
-        }
+        self.in_turn(|| Fused.quick_mult_f64(a, b), || Plain.quick_mult_f64(a, b))
     }
 
     fn dd_fmla(&mut self, a: f64, b: f64, c: f64) -> f64 {
-        if self.turn() {
-            <Fused as Arithmetic>::dd_fmla(&mut Fused, a, b, c)
-        } else {
-            <Plain as Arithmetic>::dd_fmla(&mut Plain, a, b, c)
-        }
+        self.in_turn(|| Fused.dd_fmla(a, b, c), || Plain.dd_fmla(a, b, c))
     }
 }

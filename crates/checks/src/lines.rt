@@ -1,4 +1,4 @@
-use replay::line::read_line;
+use replay::line::Line;
 use std::test::Fail;
 
 // Lines that are not so formed: too short, too long, a capital digit, another separator, no end.
@@ -14,12 +14,9 @@ const BROKEN: [&str; 6] = [
 #[test]
 fn lines(rt: HostRuntime) -> Result<(), Fail> {
     for text in BROKEN.iter() {
-        assert!(rt; read_line(text.as_bytes()).is_none());
+        assert!(rt; Line::try_from(text.as_bytes()).is_err());
     }
-    let Some(line) = read_line("4010000000000000,3e508ddd13bd35e7,fedcba9876543210\n".as_bytes())
-    else {
-        return Err(Fail::new("no line"));
-    };
+    let line = Line::try_from("4010000000000000,3e508ddd13bd35e7,fedcba9876543210\n".as_bytes())?;
     assert_eq!(rt; line.argument, 0x4010000000000000);
     assert_eq!(rt; line.plain, 0x3e508ddd13bd35e7);
     assert_eq!(rt; line.fused, 0xfedcba9876543210);

@@ -9,13 +9,10 @@ pub trait Arithmetic {
     const COMPARED_BELOW: u64;
 
     // The same number, for clauses.
-    ghost compared_below: { ℕ };
+    ghost COMPARED_BELOW: { ℕ };
 
     // What each function answers and which state it leaves, from the state that it finds.
     ghost ops: { Ops Self };
-
-    fn comparison_end() -> u64
-        ensures { result ≡ compared_below };
 
     // a * b as a pair.
     fn from_exact_mult(&mut self, a: f64, b: f64) -> DoubleDouble

@@ -4,6 +4,7 @@ ghost use Rattle.ieee.specs.Pairs.{Small, SumOf, Leads};
 ghost use Rattle.double_double.specs.Pairs.{bit_pair, fast_two_sum, two_sum, veltkamp, dekker_from, number_plus_pair, pair_plus_number, rounded_sum, negated};
 
 use std::num::f64_from_bits_with_nan;
+use std::ops::Neg;
 
 // Two numbers that stand for their exact sum.
 #[derive(Clone, Copy)]
@@ -25,13 +26,6 @@ impl DoubleDouble {
     {
         let (lo, hi) = pair;
         DoubleDouble::new(f64_from_bits_with_nan(lo), f64_from_bits_with_nan(hi))
-    }
-
-    // -self; pxfm implements `Neg`.
-    pub fn negate(self) -> Self
-        ensures { result ≡ negated self }
-    {
-        DoubleDouble::new(-self.lo, -self.hi)
     }
 
     // Two halves of a, by Veltkamp: products of halves are exact.
@@ -121,5 +115,15 @@ impl DoubleDouble {
         ensures { result ≡ rounded_sum self }
     {
         self.lo + self.hi
+    }
+}
+
+impl Neg for DoubleDouble {
+    type Output = Self;
+
+    ghost neg_gives = { λ x r. r ≡ negated x };
+
+    fn neg(self) -> Self {
+        DoubleDouble::new(-self.lo, -self.hi)
     }
 }

@@ -108,15 +108,11 @@ impl Arithmetic for Fused {
     // 20
     const COMPARED_BELOW: u64 = 0x4034000000000000;
 
-    ghost compared_below = { 0x4034000000000000 };
+    ghost COMPARED_BELOW = { 0x4034000000000000 };
 
     ghost ops = { fused_ops };
 
     ghost meaning = { fused_meaning };
-
-    fn comparison_end() -> u64 {
-        Self::COMPARED_BELOW
-    }
 
     fn from_exact_mult(&mut self, a: f64, b: f64) -> DoubleDouble {
         fused_product(a, b)

@@ -40,15 +40,11 @@ impl Arithmetic for Plain {
     // the end of the tail
     const COMPARED_BELOW: u64 = 0x403b39dc41e48bfd;
 
-    ghost compared_below = { 0x403b39dc41e48bfd };
+    ghost COMPARED_BELOW = { 0x403b39dc41e48bfd };
 
     ghost ops = { plain_ops };
 
     ghost meaning = { plain_meaning };
-
-    fn comparison_end() -> u64 {
-        Self::COMPARED_BELOW
-    }
 
     fn from_exact_mult(&mut self, a: f64, b: f64) -> DoubleDouble {
         dekker_product(a, b)

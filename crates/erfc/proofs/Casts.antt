@@ -8,7 +8,12 @@ in_float_lem : (n : ℕ) → suc n ≤ 2 ^ 53 → T (in_float binary64 (negsuc n
 unfolding in_float
 in_float_lem n h = lt→ltb n (2 ^ 53) h
 
-module _ (x : Float) (low high h : ℕ) (w : Whole x low high) (p : high ≤ 2 ^ 53) (q : high ≤ 2 ^ h) where
+within : (k : ℤ) (n low high : ℕ) → k ≡ negsuc n → suc low ≤ suc n → suc n ≤ suc high → (negsuc high ≤ℤ k) × (k ≤ℤ negsuc low)
+within k n low high e p q =
+    let inside : ℤ → Type 0 = λ z. (negsuc high ≤ℤ z) × (z ≤ℤ negsuc low) in
+    subst inside (sym e) (record { le = le→leb n high (omega arith) }, record { le = le→leb low n (omega arith) })
+
+module _ (x : Float) (low high h : ℕ) (w : Whole x (suc low) (suc high)) (p : suc high ≤ 2 ^ 53) (q : suc high ≤ 2 ^ h) where
   there : T (in_signed binary64 h (of_int binary64 (negsuc w.n))) × (to_signed h (of_int binary64 (negsuc w.n)) ≡ negsuc w.n)
   there = negative_back binary64 h w.n (in_float_lem w.n (le_trans w.most p)) (le_trans w.most q)
 
@@ -18,8 +23,6 @@ module _ (x : Float) (low high h : ℕ) (w : Whole x low high) (p : high ≤ 2 ^
   pub cast_is : to_signed h x ≡ negsuc w.n
   cast_is = ap (to_signed h) w.is ∙ there.1
 
--- the same number as an integer, between -high and -low
-pub within : (k : ℤ) (n low high : ℕ) → k ≡ negsuc n → suc low ≤ suc n → suc n ≤ suc high → (negsuc high ≤ℤ k) × (k ≤ℤ negsuc low)
-within k n low high e p q =
-    let inside : ℤ → Type 0 = λ z. (negsuc high ≤ℤ z) × (z ≤ℤ negsuc low) in
-    subst inside (sym e) (record { le = le→leb n high (omega arith) }, record { le = le→leb low n (omega arith) })
+  -- the integer z that the cast gives lies in the same bounds
+  pub cast_within : (z : ℤ) → z ≡ to_signed h x → (negsuc high ≤ℤ z) × (z ≤ℤ negsuc low)
+  cast_within z e = within z w.n low high (e ∙ cast_is) w.least w.most

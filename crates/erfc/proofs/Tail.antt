@@ -9,7 +9,7 @@ use Rattle.double_double.specs.declared.double_double.DoubleDouble.{DoubleDouble
 use Rattle.double_double.specs.Ops.{Ops, Meaning}
 use Rattle.double_double.specs.Pairs.{negated}
 use Rattle.erfc.specs.Exponentials.{multiple, accurate_multiple}
-use Rattle.erfc.specs.Rows.{Argument, fast_thresholds, accurate_thresholds, fast_row, accurate_row, fast_end, tail_end}
+use Rattle.erfc.specs.Rows.{Argument, tail_first, fast_thresholds, accurate_thresholds, fast_row, accurate_row, fast_end, tail_end}
 use Rattle.erfc.specs.Asymptotics.{one, reciprocal}
 use Rattle.erfc.proofs.Ranges.{tail_operand, square_positive, fast_multiple, accurate_multiple_lem, fast_threshold, accurate_threshold}
 use Rattle.erfc.proofs.Search.{row_within}
@@ -55,3 +55,6 @@ module _ {S : Type 0} (o : Ops S) (m : Meaning o) where
   pub reciprocal_high : (s s' : S) (y : DoubleDouble) (x : Float) → (s', y) ≡ reciprocal o s x → y.hi ≡ div binary64 one x
   unfolding reciprocal
   reciprocal_high s s' y x p = ap (λ w. w.1.hi) p
+
+pub argument : (bits end : ℕ) {x : Float} → tail_first ≤ bits → bits < end → x ≡ of_bits binary64 bits → Argument x end
+argument bits end p q e = record { bits = bits; is = e; first = p; below = q }

@@ -11,7 +11,7 @@ use Rattle.erfc.specs.declared.answer.Code.TheVariants as code
 use Rattle.erfc.specs.declared.answer.Refusal.{Refusal}
 use Rattle.erfc.specs.declared.answer.Refusal.TheVariants.{Positive, Negative}
 use Rattle.erfc.specs.declared.classes.Class.{Class}
-use Rattle.erfc.specs.declared.classes.Class.TheVariants.{Nan, Zero, Two, One, FastTail, FarTail, Listed, Refused}
+use Rattle.erfc.specs.declared.classes.Class.TheVariants.{Nan, Zero, Two, One, FastTail, FarTail, Listed}
 use Rattle.erfc.specs.Classes.{class_of}
 use Rattle.erfc.specs.Ends.{left_end, right_end}
 use Rattle.erfc.specs.Asymptotics.{fast_step, accurate_step, scaled_value}
@@ -57,19 +57,23 @@ module _ {S : Type 0} (o : Ops S) where
   without_fast_step s x = let a = accurate_step o s x in (a.0, accurate_answer code.Accurate None a.1)
 
   -- an argument of this class
-  abbrev pub answer_of : Class → S → Float → S × Result Answer Refusal
-  answer_of Nan s x = (s, Ok (plain_answer (from_bits binary64 0x7ff8000000000000) code.Nan))
-  answer_of Zero s x = (s, Ok (plain_answer (from_bits binary64 0) code.Flat))
-  answer_of Two s x = (s, Ok (plain_answer (from_bits binary64 0x4000000000000000) code.Flat))
-  answer_of One s x = (s, Ok (plain_answer (from_bits binary64 0x3ff0000000000000) code.One))
-  answer_of FastTail s x = let a = with_fast_step s x in (a.0, Ok a.1)
-  answer_of FarTail s x = let a = without_fast_step s x in (a.0, Ok a.1)
-  answer_of Listed s x = (s, Ok (plain_answer (from_bits binary64 0x000667bd620fd95b) code.Listed))
-  answer_of (Refused r) s x = (s, Err r)
+  abbrev pub answer_of : Class → S → Float → S × Answer
+  answer_of Nan s x = (s, plain_answer (from_bits binary64 0x7ff8000000000000) code.Nan)
+  answer_of Zero s x = (s, plain_answer (from_bits binary64 0) code.Flat)
+  answer_of Two s x = (s, plain_answer (from_bits binary64 0x4000000000000000) code.Flat)
+  answer_of One s x = (s, plain_answer (from_bits binary64 0x3ff0000000000000) code.One)
+  answer_of FastTail s x = with_fast_step s x
+  answer_of FarTail s x = without_fast_step s x
+  answer_of Listed s x = (s, plain_answer (from_bits binary64 0x000667bd620fd95b) code.Listed)
+
+  -- a refused argument leaves the state
+  abbrev pub outcome_of : Result Class Refusal → S → Float → S × Result Answer Refusal
+  outcome_of (Ok c) s x = let a = answer_of c s x in (a.0, Ok a.1)
+  outcome_of (Err r) s x = (s, Err r)
 
   -- f_erfc of the number with these bits
   unfoldable pub evaluation : S → ℕ → S × Result Answer Refusal
-  evaluation s b = answer_of (class_of b) s (from_bits binary64 b)
+  evaluation s b = outcome_of (class_of b) s (from_bits binary64 b)
 
 -- ---- the bounds of rows and multiples
 

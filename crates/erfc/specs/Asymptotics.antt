@@ -1,5 +1,5 @@
 -- The fast and the accurate step of the tail, in the Rust's steps over any arithmetic. Definitions only.
-use Rattle.std.specs.Prelude.{ℕ, ◌+◌, ◌*◌, cond, ℤ, neg_ℤ, from_bits, Float}
+use Rattle.std.specs.Prelude.{ℕ, ◌+◌, cond, ℤ, neg_ℤ, from_bits, Float}
 use Rattle.std.specs.Float.{binary64}
 use Rattle.std.specs.Float.Ieee.{add, sub, mul, div, neg, lt, le}
 use Rattle.double_double.specs.declared.double_double.DoubleDouble.{DoubleDouble}
@@ -9,7 +9,7 @@ use Rattle.tables.specs.Erfc.{fast_number, accurate_number}
 use Rattle.erfc.specs.declared.answer.FastPart.{FastPart}
 use Rattle.erfc.specs.declared.answer.AccuratePart.{AccuratePart}
 use Rattle.erfc.specs.Scaling.{ldexp_of}
-use Rattle.erfc.specs.Horner.{plus, plus_both, horner}
+use Rattle.erfc.specs.Horner.{plus, plus_both, single_term, double_term, horner}
 use Rattle.erfc.specs.Exponentials.{multiple_int, accurate_multiple_int, exp1, exp_accurate}
 use Rattle.erfc.specs.Rows.{fast_row, accurate_row}
 
@@ -42,7 +42,7 @@ module _ {S : Type 0} (o : Ops S) where
 
 -- turn n adds number n + 2 of the row
 abbrev pub fast_term : ℕ → ℕ → DoubleDouble → DoubleDouble
-fast_term row n v = plus fast_two_sum (fast_number row (n + 2)) v
+fast_term row = single_term fast_two_sum (fast_number row) 2
 
 -- the bound of the error: 0x1.d9p-68 hi, and 2 ^ -1022 where that would be subnormal
 abbrev pub fast_err : Float → Float
@@ -74,10 +74,10 @@ module _ {S : Type 0} (o : Ops S) where
 -- ---- the accurate step
 
 abbrev pub accurate_upper_term : ℕ → ℕ → DoubleDouble → DoubleDouble
-accurate_upper_term row n v = plus two_sum (accurate_number row (n + 12)) v
+accurate_upper_term row = single_term two_sum (accurate_number row) 12
 
 abbrev pub accurate_lower_term : ℕ → ℕ → DoubleDouble → DoubleDouble
-accurate_lower_term row n v = plus_both two_sum (accurate_number row (2 * n)) (accurate_number row (2 * n + 1)) v
+accurate_lower_term row = double_term two_sum (accurate_number row)
 
 -- v times 2 ^ k as one number; below 2 ^ -1022 the rounding is done again from what it lost
 unfoldable pub scaled_value : DoubleDouble → ℤ → Float

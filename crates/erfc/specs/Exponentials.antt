@@ -1,5 +1,5 @@
 -- exp_1 and exp_accurate with their parts, in the Rust's steps over any arithmetic. Definitions only.
-use Rattle.std.specs.Prelude.{ℕ, ◌+◌, ◌-◌, ◌*◌, ◌/◌, ◌%◌, ℤ, pos, negsuc, neg_ℤ, from_bits, Float}
+use Rattle.std.specs.Prelude.{ℕ, ◌-◌, ◌/◌, ◌%◌, ℤ, pos, negsuc, neg_ℤ, from_bits, Float}
 use Rattle.std.specs.Float.Ieee.{add, sub, mul, of_int, to_signed}
 use Rattle.std.specs.Float.{round_ties_even, binary64}
 use Rattle.double_double.specs.declared.double_double.DoubleDouble.{DoubleDouble}
@@ -8,7 +8,7 @@ use Rattle.double_double.specs.Ops.{Ops}
 use Rattle.tables.specs.Erfc.{exp_number}
 use Rattle.tables.specs.Exp.{reduce0, reduce1}
 use Rattle.erfc.specs.Scaling.{power}
-use Rattle.erfc.specs.Horner.{plus, plus_both, horner}
+use Rattle.erfc.specs.Horner.{plus, single_term, double_term, horner}
 
 -- ---- constants
 
@@ -96,10 +96,10 @@ accurate_multiple_int x = to_signed 31 (accurate_multiple x)
 
 -- a turn adds one number in the upper degrees, two in the lower ones
 abbrev pub upper_term : ℕ → DoubleDouble → DoubleDouble
-upper_term n v = plus fast_two_sum (exp_number (n + 16)) v
+upper_term = single_term fast_two_sum exp_number 16
 
 abbrev pub lower_term : ℕ → DoubleDouble → DoubleDouble
-lower_term n v = plus_both fast_two_sum (exp_number (2 * n)) (exp_number (2 * n + 1)) v
+lower_term = double_term fast_two_sum exp_number
 
 module _ {S : Type 0} (o : Ops S) where
   -- what is left of x after k multiples of log 2; j is -k

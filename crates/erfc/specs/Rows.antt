@@ -1,5 +1,6 @@
 -- The row that serves an argument. Definitions only.
-use Rattle.std.specs.Prelude.{◌≡◌, ℕ, ◌+◌, ◌<◌, ◌≤◌, cond, List, [], ◌∷◌, from_bits, Float}
+use Rattle.std.specs.Prelude.{◌≡◌, ℕ, ◌<◌, ◌≤◌, List, [], ◌∷◌, from_bits, Float}
+use Rattle.std.specs.List.{prefix_len}
 use Rattle.std.specs.Float.{binary64}
 use Rattle.std.specs.Float.Ieee.{lt}
 
@@ -30,8 +31,7 @@ accurate_thresholds =
 
 -- the place of the first threshold that is at least y; their count if there is none
 abbrev pub first_not_below : List ℕ → Float → ℕ
-first_not_below [] y = 0
-first_not_below (t ∷ ts) y = cond (lt (from_bits binary64 t) y) (1 + first_not_below ts y) 0
+first_not_below ts y = prefix_len (λ t. lt (from_bits binary64 t) y) ts
 
 -- the rows for y, the f64 nearest to 1/x
 abbrev pub fast_row : Float → ℕ

@@ -8,28 +8,28 @@ use double_double::double_double::DoubleDouble;
 // How a value came about.
 #[derive(Clone, Copy, PartialEq, Eq)]
 pub enum Code {
-    Nan,
+    Nan = 0,
     // +0 or 2.0, far out
-    Flat,
+    Flat = 1,
     // 1.0, around zero
-    One,
+    One = 2,
     // the fast step decided
-    Fast,
+    Fast = 3,
     // the fast step did not decide, the accurate step answered
-    Retried,
+    Retried = 4,
     // there is no fast step, the accurate step answered
-    Accurate,
+    Accurate = 5,
     // from the list of exceptions
-    Listed,
+    Listed = 6,
 }
 
 // Why there is no value.
 #[derive(Clone, Copy, PartialEq, Eq)]
 pub enum Refusal {
     // positive, between the flat end around zero and the tail
-    Positive,
+    Positive = 1,
     // negative, between the two flat ends
-    Negative,
+    Negative = 2,
 }
 
 // The fast step: its row, its multiple of log(2)/4096, its pair and the bound of its error.
@@ -56,30 +56,19 @@ pub struct Answer {
     pub accurate: Option<AccuratePart>,
 }
 
-impl Code {
-    pub fn number(self) -> u8
-        ensures { result ≡ code_number self }
-    {
-        match self {
-            Code::Nan => 0,
-            Code::Flat => 1,
-            Code::One => 2,
-            Code::Fast => 3,
-            Code::Retried => 4,
-            Code::Accurate => 5,
-            Code::Listed => 6,
-        }
+impl From<Code> for u8 {
+    ghost from_gives = { λ c n. n ≡ code_number c };
+
+    fn from(code: Code) -> u8 {
+        code as u8
     }
 }
 
-impl Refusal {
-    pub fn number(self) -> u8
-        ensures { result ≡ refusal_number self }
-    {
-        match self {
-            Refusal::Positive => 1,
-            Refusal::Negative => 2,
-        }
+impl From<Refusal> for u8 {
+    ghost from_gives = { λ r n. n ≡ refusal_number r };
+
+    fn from(refusal: Refusal) -> u8 {
+        refusal as u8
     }
 }
 

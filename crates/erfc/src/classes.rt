@@ -15,33 +15,32 @@ pub enum Class {
     // a tail argument without one
     FarTail,
     Listed,
-    Refused(Refusal),
 }
 
-pub fn classify(bits: u64) -> Class
+pub fn classify(bits: u64) -> Result<Class, Refusal>
     ensures { result ≡ class_of bits }
 {
     if bits <= 0x3c8c5bf891b4ef6a {
-        Class::One
+        Ok(Class::One)
     } else if bits < 0x400713786d9c7c0a {
-        Class::Refused(Refusal::Positive)
+        Err(Refusal::Positive)
     } else if bits < 0x4039db1bb14e15ca {
-        Class::FastTail
+        Ok(Class::FastTail)
     } else if bits == 0x403a8f7bfbd15495 {
-        Class::Listed
+        Ok(Class::Listed)
     } else if bits < 0x403b39dc41e48bfd {
-        Class::FarTail
+        Ok(Class::FarTail)
     } else if bits <= 0x7ff0000000000000 {
-        Class::Zero
+        Ok(Class::Zero)
     } else if bits < 0x8000000000000000 {
-        Class::Nan
+        Ok(Class::Nan)
     } else if bits <= 0xbc9c5bf891b4ef6a {
-        Class::One
+        Ok(Class::One)
     } else if bits < 0xc017744f8f74e94b {
-        Class::Refused(Refusal::Negative)
+        Err(Refusal::Negative)
     } else if bits <= 0xfff0000000000000 {
-        Class::Two
+        Ok(Class::Two)
     } else {
-        Class::Nan
+        Ok(Class::Nan)
     }
 }

@@ -14,10 +14,7 @@ impl DyadicSign {
     pub fn to_bit(self) -> u8
         ensures { result ≡ sign_bit self }
     {
-        match self {
-            DyadicSign::Pos => 0,
-            DyadicSign::Neg => 1,
-        }
+        self as u8
     }
 }
 

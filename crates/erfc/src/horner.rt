@@ -1,13 +1,13 @@
 // The Horner loops, written once.
-ghost use Rattle.std.specs.Prelude.{◌≡◌, ℕ, ◌+◌, ◌<◌, ◌≤◌};
+ghost use Rattle.std.specs.Prelude.{◌≡◌, ℕ, ◌+◌, ◌-◌, ◌*◌, ◌/◌, ◌<◌, ◌≤◌, Float};
 ghost use Rattle.double_double.specs.declared.double_double.DoubleDouble.{DoubleDouble};
-ghost use Rattle.erfc.specs.Horner.{horner};
-ghost use Rattle.erfc.specs.Exponentials.{upper_term, lower_term};
-ghost use Rattle.erfc.specs.Asymptotics.{fast_term, accurate_upper_term, accurate_lower_term};
+ghost use Rattle.double_double.specs.Pairs.{fast_two_sum, two_sum};
+ghost use Rattle.erfc.specs.Horner.{plus, plus_both, single_term, double_term, horner};
 
 use double_double::arithmetic::Arithmetic;
 use double_double::double_double::DoubleDouble;
-use tables::err::erfc::{accurate_number, asymptotic_number, exp_number};
+use tables::err::erfc::{AccurateNumbers, AsymptoticNumbers, ExpNumbers};
+use tables::numbers::Numbers;
 
 // The coefficients of a polynomial, by what a turn adds to its product.
 pub trait Terms {
@@ -40,91 +40,83 @@ pub fn evaluate<A: Arithmetic, T: Terms>(
     z_dd
 }
 
-// Degrees 14 to 8 of the accurate exponential.
-#[derive(Drop)]
-pub struct UpperDegrees;
+// The numbers of a polynomial with the way in which one is added to a pair.
+pub trait Coefficients: Numbers {
+    // The exact sum of a number and a product.
+    ghost sum: { Float → Float → DoubleDouble };
 
-impl Terms for UpperDegrees {
-    ghost count = { λ _. 7 };
+    fn sum(c: f64, v: f64) -> DoubleDouble
+        ensures { result ≡ sum c v };
 
-    ghost adds = { λ _. upper_term };
-
-    fn add(&self, n: usize, v: DoubleDouble) -> DoubleDouble {
-        let mut z = DoubleDouble::from_exact_add(exp_number(n + 16), v.hi);
+    // Number n plus v.
+    fn plus(&self, n: usize, v: DoubleDouble) -> DoubleDouble
+        requires { n < Self.count self.now }
+        ensures { result ≡ plus sum (Self.numbers self.now n) v }
+    {
+        let mut z = Self::sum(self.number(n), v.hi);
         z.lo += v.lo;
         z
     }
-}
 
-// Degrees 7 to 0, whose coefficients are sums of two numbers.
-#[derive(Drop)]
-pub struct LowerDegrees;
-
-impl Terms for LowerDegrees {
-    ghost count = { λ _. 8 };
-
-    ghost adds = { λ _. lower_term };
-
-    fn add(&self, n: usize, v: DoubleDouble) -> DoubleDouble {
-        let mut z = DoubleDouble::from_exact_add(exp_number(2 * n), v.hi);
-        z.lo += v.lo + exp_number(2 * n + 1);
+    // Number n and the next, whose sum is one coefficient, plus v.
+    fn plus_both(&self, n: usize, v: DoubleDouble) -> DoubleDouble
+        requires { n + 1 < Self.count self.now }
+        ensures { result ≡ plus_both sum (Self.numbers self.now n) (Self.numbers self.now (n + 1)) v }
+    {
+        let mut z = Self::sum(self.number(n), v.hi);
+        z.lo += v.lo + self.number(n + 1);
         z
     }
 }
 
-// Numbers 8 to 2 of a row of the fast polynomial.
-#[derive(Drop)]
-pub struct FastTerms {
-    pub row: usize,
-    ghost within: { row < 6 },
-}
+impl Coefficients for ExpNumbers {
+    ghost sum = { fast_two_sum };
 
-impl Terms for FastTerms {
-    ghost count = { λ _. 7 };
-
-    ghost adds = { λ t. fast_term t.row };
-
-    fn add(&self, n: usize, v: DoubleDouble) -> DoubleDouble {
-        let mut z = DoubleDouble::from_exact_add(asymptotic_number(self.row, n + 2), v.hi);
-        z.lo += v.lo;
-        z
+    fn sum(c: f64, v: f64) -> DoubleDouble {
+        DoubleDouble::from_exact_add(c, v)
     }
 }
 
-// Numbers 19 + row to 12 of a row of the accurate polynomial.
-#[derive(Drop)]
-pub struct AccurateUpper {
-    pub row: usize,
-    ghost within: { row < 10 },
-}
+impl Coefficients for AsymptoticNumbers {
+    ghost sum = { fast_two_sum };
 
-impl Terms for AccurateUpper {
-    ghost count = { λ t. t.row + 8 };
-
-    ghost adds = { λ t. accurate_upper_term t.row };
-
-    fn add(&self, n: usize, v: DoubleDouble) -> DoubleDouble {
-        let mut z = DoubleDouble::from_full_exact_add(accurate_number(self.row, n + 12), v.hi);
-        z.lo += v.lo;
-        z
+    fn sum(c: f64, v: f64) -> DoubleDouble {
+        DoubleDouble::from_exact_add(c, v)
     }
 }
 
-// The six coefficients of two numbers each of a row of the accurate polynomial.
-#[derive(Drop)]
-pub struct AccurateLower {
-    pub row: usize,
-    ghost within: { row < 10 },
+impl Coefficients for AccurateNumbers {
+    ghost sum = { two_sum };
+
+    fn sum(c: f64, v: f64) -> DoubleDouble {
+        DoubleDouble::from_full_exact_add(c, v)
+    }
 }
 
-impl Terms for AccurateLower {
-    ghost count = { λ _. 6 };
+// Coefficients of one number each, from number FIRST on.
+#[derive(Drop)]
+pub struct Singles<C: Coefficients, const FIRST: usize>(pub C);
 
-    ghost adds = { λ t. accurate_lower_term t.row };
+impl<C: Coefficients, const FIRST: usize> Terms for Singles<C, FIRST> {
+    ghost count = { λ t. C.count t.0 - FIRST };
+
+    ghost adds = { λ t. single_term C.sum (C.numbers t.0) FIRST };
 
     fn add(&self, n: usize, v: DoubleDouble) -> DoubleDouble {
-        let mut z = DoubleDouble::from_full_exact_add(accurate_number(self.row, 2 * n), v.hi);
-        z.lo += v.lo + accurate_number(self.row, 2 * n + 1);
-        z
+        self.0.plus(n + FIRST, v)
+    }
+}
+
+// Coefficients of two numbers each, from number 0 on.
+#[derive(Drop)]
+pub struct Doubles<C: Coefficients>(pub C);
+
+impl<C: Coefficients> Terms for Doubles<C> {
+    ghost count = { λ t. C.count t.0 / 2 };
+
+    ghost adds = { λ t. double_term C.sum (C.numbers t.0) };
+
+    fn add(&self, n: usize, v: DoubleDouble) -> DoubleDouble {
+        self.0.plus_both(2 * n, v)
     }
 }

@@ -2,6 +2,7 @@
 #![tactic(auto)]
 
 pub mod answer;
+pub mod argument;
 pub mod classes;
 pub mod dyadic_float;
 pub mod err;

@@ -1,7 +1,5 @@
 // The row of a polynomial that serves an argument.
-ghost use Rattle.std.specs.Prelude.{◌≡◌, from_bits};
-ghost use Rattle.std.specs.Float.{binary64};
-ghost use Rattle.std.specs.Float.Ieee.{lt};
+ghost use Rattle.std.specs.Prelude.{◌≡◌};
 ghost use Rattle.erfc.specs.Rows.{first_not_below, fast_row, accurate_row};
 
 use std::num::f64_from_bits_with_nan;
@@ -29,21 +27,14 @@ static THRESHOLD_ACCURATE: [u64; 10] = [
     0x3fe3000000000000,
 ];
 
-fn is_above(yh: f64, threshold: u64) -> bool
-    ensures { result ≡ lt (from_bits binary64 threshold) yh }
-{
-    yh > f64_from_bits_with_nan(threshold)
-}
-
 // The first row whose threshold is at least yh.
 fn first_row(thresholds: &[u64], yh: f64) -> usize
     ensures { result ≡ first_not_below thresholds.now yh }
 {
-    let mut i = 0usize;
-    while i < thresholds.len() && is_above(yh, thresholds[i]) {
-        i += 1;
-    }
-    i
+    thresholds
+        .iter()
+        .take_while(|t| yh > f64_from_bits_with_nan(**t))
+        .count()
 }
 
 pub fn fast_row(yh: f64) -> usize

@@ -1,14 +1,15 @@
 -- Worked figures, each computed from the definitions that the contracts cite. Definitions only.
-use Rattle.std.specs.Prelude.{◌≡◌, ℕ, List, [], ◌∷◌, ℤ, negsuc, from_bits, Float}
+use Rattle.std.specs.Prelude.{◌≡◌, ℕ, List, [], ◌∷◌, ℤ, negsuc, Ok, Err, Result, from_bits, Float}
 use Rattle.std.specs.Float.Ieee.{mul, div, neg}
 use Rattle.std.specs.Float.{round_ties_even, binary64}
 use Rattle.double_double.specs.declared.double_double.DoubleDouble.{DoubleDouble}
 use Rattle.double_double.specs.Pairs.{bit_pair}
 use Rattle.double_double.specs.Plain.{plain_product}
 use Rattle.double_double.specs.Fused.{fused_product}
+use Rattle.erfc.specs.declared.answer.Refusal.{Refusal}
 use Rattle.erfc.specs.declared.answer.Refusal.TheVariants.{Positive, Negative}
 use Rattle.erfc.specs.declared.classes.Class.{Class}
-use Rattle.erfc.specs.declared.classes.Class.TheVariants.{Two, One, FastTail, Refused}
+use Rattle.erfc.specs.declared.classes.Class.TheVariants.{Two, One, FastTail}
 use Rattle.erfc.specs.Scaling.{ldexp_of}
 use Rattle.erfc.specs.Exponentials.{multiple_int, reduced_indices, accurate_multiple_int}
 use Rattle.erfc.specs.Rows.{fast_row, accurate_row}
@@ -67,13 +68,13 @@ pub record StepsAre (s : Steps) : Type 0 where
   pub big_is : accurate_multiple_int (neg (mul binary64 (number s.bits) (number s.bits))) ≡ s.big
 
 -- both sides of three boundaries
-abbrev pub boundaries : List (ℕ × Class)
+abbrev pub boundaries : List (ℕ × Result Class Refusal)
 boundaries =
-    (0x3c8c5bf891b4ef6a, One) ∷ (0x3c8c5bf891b4ef6b, Refused Positive) ∷
-    (0x400713786d9c7c09, Refused Positive) ∷ (0x400713786d9c7c0a, FastTail) ∷
-    (0xc017744f8f74e94a, Refused Negative) ∷ (0xc017744f8f74e94b, Two) ∷ []
+    (0x3c8c5bf891b4ef6a, Ok One) ∷ (0x3c8c5bf891b4ef6b, Err Positive) ∷
+    (0x400713786d9c7c09, Err Positive) ∷ (0x400713786d9c7c0a, Ok FastTail) ∷
+    (0xc017744f8f74e94a, Err Negative) ∷ (0xc017744f8f74e94b, Ok Two) ∷ []
 
-abbrev pub ClassIs : ℕ × Class → Type 0
+abbrev pub ClassIs : ℕ × Result Class Refusal → Type 0
 ClassIs p = class_of p.0 ≡ p.1
 
 pub record Figures : Type 0 where

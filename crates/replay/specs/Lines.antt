@@ -1,6 +1,7 @@
 -- A line of three numbers of 16 lowercase hex digits. Definitions only.
-use Rattle.std.specs.Prelude.{ℕ, ◌+◌, ◌-◌, ◌*◌, Bool, cond, ◌&&◌, List, [], ◌∷◌, length, take, drop, Some, None, Option, ◌==◌, nat_le, slice_index}
+use Rattle.std.specs.Prelude.{ℕ, ◌+◌, ◌-◌, ◌*◌, Bool, cond, ◌&&◌, List, [], ◌∷◌, length, take, drop, Some, None, Option, Ok, Err, Result, ◌==◌, nat_le, slice_index}
 use Rattle.replay.specs.declared.line.Line.{Line}
+use Rattle.replay.specs.declared.line.Malformed.{Malformed}
 
 abbrev pub OnSome : Option ℕ → (ℕ → Type 0) → Type 0
 OnSome (Some d) P = P d
@@ -32,3 +33,7 @@ framed bs = length bs == 51 && slice_index bs 16 == 44 && slice_index bs 33 == 4
 
 abbrev pub line_of : List ℕ → Option Line
 line_of bs = cond (framed bs) (together (hex_of 0 bs) (hex_of 17 bs) (hex_of 34 bs)) None
+
+-- the line, or the refusal of these bytes
+abbrev pub line_or : List ℕ → Result Line Malformed
+line_or bs = elim (line_of bs) [ Some l ↦ Ok l | None ↦ Err (record {}) ]

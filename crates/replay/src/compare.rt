@@ -3,22 +3,28 @@ ghost use Rattle.std.specs.Prelude.{◌≡◌};
 ghost use Rattle.replay.specs.Comparisons.{is_compared, agrees_with, judged, replayed, counted_in};
 
 use double_double::arithmetic::Arithmetic;
-use erfc::answer::{Answer, Code};
+use erfc::answer::{Answer, Code, Refusal};
 use erfc::err::erfc::f_erfc;
 use std::num::f64_to_bits_with_nan;
 
-// What came of one comparison.
-#[derive(Clone, Copy)]
+// The bits of an argument, and of the answer that is expected of it.
+#[derive(Clone, Copy, Debug, PartialEq, Eq)]
+pub struct Expected {
+    pub argument: u64,
+    pub answer: u64,
+}
+
+// What came of comparing one answer.
+#[derive(Clone, Copy, Debug, PartialEq, Eq)]
 pub enum Comparison {
     Equal,
     // the bits that came instead
     Differs(u64),
     // a tail argument that the arithmetic does not compare
     Skipped,
-    Refused,
 }
 
-#[derive(Clone, Copy)]
+#[derive(Clone, Copy, Debug, Default, PartialEq, Eq)]
 pub struct Counts {
     pub compared: u64,
     pub equal: u64,
@@ -45,12 +51,12 @@ fn agrees(value: f64, expected: u64) -> bool
     }
 }
 
-fn judge(answer: &Answer, argument: u64, end: u64, expected: u64) -> Comparison
-    ensures { result ≡ judged answer.now argument end expected }
+fn judge(answer: &Answer, expected: Expected, end: u64) -> Comparison
+    ensures { result ≡ judged answer.now expected.argument end expected.answer }
 {
-    if !is_compared(answer.code, argument, end) {
+    if !is_compared(answer.code, expected.argument, end) {
         Comparison::Skipped
-    } else if agrees(answer.value, expected) {
+    } else if agrees(answer.value, expected.answer) {
         Comparison::Equal
     } else {
         Comparison::Differs(f64_to_bits_with_nan(answer.value))
@@ -58,13 +64,11 @@ fn judge(answer: &Answer, argument: u64, end: u64, expected: u64) -> Comparison
 }
 
 // f_erfc of the argument over this arithmetic, against the expected bits.
-pub fn replay<A: Arithmetic>(arith: &mut A, argument: u64, expected: u64) -> Comparison
-    ensures { (arith.new, result) ≡ replayed A.Arithmetic.ops A.Arithmetic.compared_below arith.old argument expected }
+pub fn replay<A: Arithmetic>(arith: &mut A, expected: Expected) -> Result<Comparison, Refusal>
+    ensures { (arith.new, result) ≡ replayed A.Arithmetic.ops A.Arithmetic.COMPARED_BELOW arith.old expected.argument expected.answer }
 {
-    match f_erfc(arith, argument) {
-        Ok(answer) => judge(&answer, argument, A::comparison_end(), expected),
-        Err(_) => Comparison::Refused,
-    }
+    let answer = f_erfc(arith, expected.argument)?;
+    Ok(judge(&answer, expected, A::COMPARED_BELOW))
 }
 
 impl Counts {
@@ -78,7 +82,7 @@ impl Counts {
                 self.equal = self.equal.saturating_add(1);
             }
             Comparison::Differs(_) => self.compared = self.compared.saturating_add(1),
-            Comparison::Skipped | Comparison::Refused => {}
+            Comparison::Skipped => {}
         }
     }
 }

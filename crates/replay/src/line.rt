@@ -1,28 +1,41 @@
 // A line `argument,plain,fused`: three times 16 lowercase hex digits, parted by commas, ended by byte 0a.
 ghost use Rattle.std.specs.Prelude.{◌≡◌, ◌+◌, ◌*◌, ◌<◌, ◌≤◌, true, length};
-ghost use Rattle.replay.specs.Lines.{digit_of, hex_from, OnSome, framed, line_of};
+ghost use Rattle.replay.specs.Lines.{digit_of, hex_from, OnSome, framed, line_of, line_or};
+
+use std::error::Error;
+use std::fmt;
 
 // The bytes of a line.
 pub const LENGTH: usize = 51;
 
 // What the Rust answered without and with fused multiply-add.
-#[derive(Clone, Copy)]
+#[derive(Clone, Copy, Debug, PartialEq, Eq)]
 pub struct Line {
     pub argument: u64,
     pub plain: u64,
     pub fused: u64,
 }
 
+// These bytes are no line.
+#[derive(Clone, Copy, Debug, PartialEq, Eq)]
+pub struct Malformed;
+
+impl fmt::Display for Malformed {
+    fn fmt<W: fmt::Write>(&self, f: &mut fmt::Formatter<W>) -> fmt::Result {
+        f.write_str("a line is not so formed")
+    }
+}
+
+impl Error for Malformed {}
+
 fn digit(b: u8) -> Option<u64>
     ensures value { result ≡ digit_of b }
     ensures bound { OnSome result (λ d. d < 16) }
 {
-    if b >= 48 && b <= 57 {
-        Some((b - 48) as u64)
-    } else if b >= 97 && b <= 102 {
-        Some((b - 87) as u64)
-    } else {
-        None
+    match b {
+        b'0'..=b'9' => Some(u64::from(b - b'0')),
+        b'a'..=b'f' => Some(u64::from(b - b'a') + 10),
+        _ => None,
     }
 }
 
@@ -33,10 +46,7 @@ fn hex(digits: &[u8]) -> Option<u64>
 {
     let mut value = 0u64;
     for b in digits {
-        match digit(*b) {
-            Some(d) => value = value * 16 + d,
-            None => return None,
-        }
+        value = value * 16 + digit(*b)?;
     }
     Some(value)
 }
@@ -46,11 +56,10 @@ fn is_framed(bytes: &[u8]) -> bool
     ensures value { result ≡ framed bytes.now }
     ensures length { result ≡ true → length bytes.now ≡ 51 }
 {
-    bytes.len() == LENGTH && bytes[16] == 44 && bytes[33] == 44 && bytes[50] == 10
+    bytes.len() == LENGTH && bytes[16] == b',' && bytes[33] == b',' && bytes[50] == b'\n'
 }
 
-// The line that these bytes are, or none.
-pub fn read_line(bytes: &[u8]) -> Option<Line>
+fn line_in(bytes: &[u8]) -> Option<Line>
     ensures { result ≡ line_of bytes.now }
 {
     if !is_framed(bytes) {
@@ -64,4 +73,14 @@ pub fn read_line(bytes: &[u8]) -> Option<Line>
         plain,
         fused,
     })
+}
+
+impl TryFrom<&[u8]> for Line {
+    type Error = Malformed;
+
+    ghost try_from_gives = { λ bytes r. r ≡ line_or bytes.now };
+
+    fn try_from(bytes: &[u8]) -> Result<Self, Malformed> {
+        line_in(bytes).ok_or(Malformed)
+    }
 }

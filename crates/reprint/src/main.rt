@@ -1,14 +1,32 @@
 // Replays answers of the Rust: lines `argument,plain,fused` on standard input, differences and counts on standard output.
 #![tactic(auto)]
 
-use anyhow::anyhow;
 use double_double::arithmetic::Arithmetic;
 use double_double::fused::Fused;
 use double_double::plain::Plain;
-use replay::compare::{Comparison, Counts, replay};
-use replay::line::{LENGTH, Line, read_line};
-use std::io;
-use std::io::{BufReader, Read};
+use erfc::answer::Refusal;
+use replay::compare::{Comparison, Counts, Expected, replay};
+use replay::line::{LENGTH, Line, Malformed};
+use std::io::{BufRead, BufReader, Read};
+use std::{fmt, io};
+use thiserror::Error;
+
+// An answer that differs from the expected one.
+#[derive(Clone, Copy)]
+struct Difference {
+    side: &'static str,
+    expected: Expected,
+    got: u64,
+}
+
+impl fmt::Display for Difference {
+    fn fmt<W: fmt::Write>(&self, f: &mut fmt::Formatter<W>) -> fmt::Result {
+        let side = self.side;
+        let Expected { argument, answer } = self.expected;
+        let got = self.got;
+        write!(f, "differs,{side},{argument:016x},{answer:016x},{got:016x}")
+    }
+}
 
 // One arithmetic with its name and what came of its comparisons.
 #[derive(Drop)]
@@ -20,99 +38,98 @@ struct Side<A: Arithmetic> {
 
 impl<A: Arithmetic> Side<A> {
     fn new(name: &'static str, arith: A) -> Self {
-        let counts = Counts {
-            compared: 0,
-            equal: 0,
-        };
         Side {
             name,
             arith,
-            counts,
+            counts: Counts::default(),
         }
     }
 
-    // Evaluates, counts, and reports a difference; false where the argument is refused.
-    fn take(&mut self, rt: &impl Print, argument: u64, expected: u64) -> io::Result<bool> {
-        let comparison = replay(&mut self.arith, argument, expected);
+    // Evaluates and counts; an argument that is refused is not counted.
+    fn take(&mut self, expected: Expected) -> Result<Option<Difference>, Refusal> {
+        let comparison = replay(&mut self.arith, expected)?;
         self.counts.count(comparison);
-        match comparison {
-            Comparison::Differs(got) => {
-                let name = self.name;
-                println!(rt; "differs,{name},{argument:016x},{expected:016x},{got:016x}")?;
-                Ok(true)
-            }
-            Comparison::Equal | Comparison::Skipped => Ok(true),
-            Comparison::Refused => Ok(false),
-        }
-    }
-
-    fn report(&self, rt: &impl Print) -> io::Result<()> {
-        let name = self.name;
-        let compared = self.counts.compared;
-        let equal = self.counts.equal;
-        println!(rt; "{name},{compared},{equal}")
+        Ok(match comparison {
+            Comparison::Differs(got) => Some(Difference {
+                side: self.name,
+                expected,
+                got,
+            }),
+            Comparison::Equal | Comparison::Skipped => None,
+        })
     }
 }
 
-// The next bytes of the input, as many as a line has or as are left.
-fn fill(input: &mut impl Read, bytes: &mut [u8; LENGTH]) -> io::Result<usize> {
-    let mut have = 0usize;
-    for _ in 0..LENGTH {
-        if have >= LENGTH {
-            break;
-        }
-        let n = input.read(&mut bytes[have..])?;
-        if n == 0 {
-            break;
-        }
-        have += n;
+impl<A: Arithmetic> fmt::Display for Side<A> {
+    fn fmt<W: fmt::Write>(&self, f: &mut fmt::Formatter<W>) -> fmt::Result {
+        write!(
+            f,
+            "{},{},{}",
+            self.name, self.counts.compared, self.counts.equal
+        )
     }
-    Ok(have)
 }
 
-enum Next {
-    Line(Line),
-    Fault,
-    End,
+// Why no line was read.
+#[derive(Debug, Drop, Error)]
+enum ReadError {
+    #[error(transparent)]
+    Io(#[from] io::Error),
+    #[error(transparent)]
+    Malformed(#[from] Malformed),
 }
 
-fn next_line(input: &mut impl Read) -> io::Result<Next> {
-    let mut bytes = [0u8; LENGTH];
-    let have = fill(input, &mut bytes)?;
-    if have == 0 {
-        return Ok(Next::End);
+// The next line, or none at the end of the input.
+fn next_line(input: &mut impl BufRead, bytes: &mut Vec<u8>) -> Result<Option<Line>, ReadError> {
+    bytes.clear();
+    input.by_ref().take(LENGTH as u64).read_until(b'\n', bytes)?;
+    if bytes.is_empty() {
+        return Ok(None);
     }
-    if have < LENGTH {
-        return Ok(Next::Fault);
+    Ok(Some(Line::try_from(bytes.as_slice())?))
+}
+
+fn report(rt: &impl Print, difference: Option<Difference>) -> io::Result<()> {
+    if let Some(difference) = difference {
+        println!(rt; "{difference}")?;
     }
-    match read_line(&bytes) {
-        Some(line) => Ok(Next::Line(line)),
-        None => Ok(Next::Fault),
-    }
+    Ok(())
 }
 
 fn main(rt: HostRuntime) -> anyhow::Result<()> {
     let mut input = BufReader::new(rt.alloc(), rt.stdin())?;
+    let mut bytes = Vec::new(rt.alloc());
     let mut plain = Side::new("plain", Plain);
     let mut fused = Side::new("fused", Fused);
     let mut refused = 0u64;
     for number in 1..u64::MAX {
-        match next_line(&mut input)? {
-            Next::Line(line) => {
-                if !plain.take(&rt, line.argument, line.plain)? {
-                    refused = refused.saturating_add(1);
+        let line = match next_line(&mut input, &mut bytes) {
+            Ok(Some(line)) => line,
+            Ok(None) => break,
+            Err(error) => {
+                if let ReadError::Malformed(_) = error {
+                    println!(rt; "fault,{number}")?;
                 }
-                let _ = fused.take(&rt, line.argument, line.fused)?;
+                return Err(error.into());
             }
-            Next::Fault => {
-                println!(rt; "fault,{number}")?;
-                return Err(anyhow!("a line is not so formed"));
-            }
-            Next::End => break,
+        };
+        match plain.take(Expected {
+            argument: line.argument,
+            answer: line.plain,
+        }) {
+            Ok(difference) => report(&rt, difference)?,
+            // fused refuses it too
+            Err(_) => refused = refused.saturating_add(1),
+        }
+        if let Ok(difference) = fused.take(Expected {
+            argument: line.argument,
+            answer: line.fused,
+        }) {
+            report(&rt, difference)?;
         }
     }
-    plain.report(&rt)?;
-    fused.report(&rt)?;
+    println!(rt; "{plain}")?;
+    println!(rt; "{fused}")?;
     println!(rt; "refused,{refused}")?;
     Ok(())
 }

@@ -1,2 +1,3 @@
 pub mod Erfc
 pub mod Exp
+pub mod Finite

@@ -3,3 +3,4 @@
 
 pub mod err;
 pub mod exponents;
+pub mod numbers;

@@ -1,6 +1,5 @@
-use Rattle.std.proofs.Common.{refl}
 use Rattle.bounds.proofs.AccurateAll.{accurate_exponential}
 use Rattle.bounds.proofs.accurate_exponentials_are_near.Goals as goal
 
 pub returns : goal.returns
-returns g c = record { accurate = λ s t x a. accurate_exponential g.A.Arithmetic.ops g.met.A.Arithmetic.meaning s t x _ a refl }
+returns g c = record { accurate = accurate_exponential g.A.Arithmetic.ops g.met.A.Arithmetic.meaning }

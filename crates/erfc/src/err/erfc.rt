@@ -1,33 +1,32 @@
 // pxfm's src/err/erfc.rs, over any arithmetic.
-ghost use Rattle.std.specs.Prelude.{◌≡◌, ◌<◌, T, negsuc, neg_ℤ, ◌≤ℤ◌, from_bits};
+ghost use Rattle.std.specs.Prelude.{◌≡◌, Ok, ◌<◌, negsuc, ◌≤ℤ◌, from_bits};
 ghost use Rattle.std.specs.Float.{binary64};
-ghost use Rattle.std.specs.Float.Ieee.{in_signed, of_int, to_signed};
 ghost use Rattle.ieee.specs.Whole.{Whole};
 ghost use Rattle.erfc.specs.Exponentials.{multiple, multiple_int, reduced_indices, q1, reduced_argument, exp1, accurate_multiple, accurate_multiple_int, accurate_argument, leading_degrees, exp_accurate};
-ghost use Rattle.erfc.specs.Rows.{Argument};
 ghost use Rattle.erfc.specs.Asymptotics.{reciprocal, squared, fast_polynomial, fast_err, fast_step, accurate_polynomial, scaled_value, accurate_step};
 ghost use Rattle.erfc.specs.Classes.{class_of};
 ghost use Rattle.erfc.specs.Answers.{plain_answer, with_fast_step, without_fast_step, answer_of, evaluation, Within, OutcomeWithin};
 
 use crate::answer::{AccuratePart, Answer, Code, FastPart, Refusal};
+use crate::argument::{FAST_END, TAIL_END, TailArgument};
 use crate::classes::{Class, classify};
 use crate::err::erf::Erf;
 use crate::exponents::auxiliary::{ldexp_steps, power_of_two};
-use crate::horner::{
-    AccurateLower, AccurateUpper, FastTerms, LowerDegrees, UpperDegrees, evaluate,
-};
+use crate::horner::{Coefficients, Doubles, Singles, evaluate};
 use crate::rounding::round_ties_even::round_ties_even;
 use crate::rows::{accurate_row, fast_row};
 use double_double::arithmetic::Arithmetic;
 use double_double::double_double::DoubleDouble;
 use std::num::f64_from_bits_with_nan;
-use tables::err::erfc::{accurate_number, asymptotic_number, asymptotic_turns, exp_number};
+use tables::err::erfc::{AccurateNumbers, AsymptoticNumbers, ExpNumbers};
 use tables::exponents::exp::{exp_reduce_0, exp_reduce_1};
+use tables::numbers::Numbers;
 
 // The answer of 403a8f7bfbd15495, which other rounding modes would miss.
 const LISTED_ANSWER: u64 = 0x000667bd620fd95b;
 
 // A polynomial for exp(z), for |z| < 2^-12.88.
+#[tactic(auto, unfolding(crate::specs::Exponentials::q1))]
 fn q_1<A: Arithmetic>(arith: &mut A, z_dd: DoubleDouble) -> DoubleDouble
     ensures { (arith.new, result) ≡ q1 A.Arithmetic.ops arith.old z_dd }
 {
@@ -48,14 +47,6 @@ fn q_1<A: Arithmetic>(arith: &mut A, z_dd: DoubleDouble) -> DoubleDouble
     let mut v = DoubleDouble::from_exact_add(f64_from_bits_with_nan(C[1]), q * z);
     v = arith.quick_mult(z_dd, v);
     DoubleDouble::f64_add(f64_from_bits_with_nan(C[0]), v)
-}
-
-// k is a whole number: this is only a conversion.
-fn as_integer(k: f64) -> i64
-    requires { T (in_signed binary64 63 k) }
-    ensures { result ≡ to_signed 63 k }
-{
-    k as i64
 }
 
 // k as 4096 m + 64 i2 + i1.
@@ -86,20 +77,20 @@ fn reduced_argument<A: Arithmetic>(arith: &mut A, k: f64, x: DoubleDouble) -> Do
 pub struct Exp1 {
     pub k: i64,
     pub result: DoubleDouble,
+    ghost k_low: { negsuc 3999999 ≤ℤ k },
+    ghost k_high: { k ≤ℤ negsuc 48999 },
 }
 
 // exp(x), for x whose multiple k lies in the fast range.
 fn exp_1<A: Arithmetic>(arith: &mut A, x: DoubleDouble) -> Exp1
     requires { Whole (multiple x.hi) 49000 4000000 }
     ensures k { result.k ≡ multiple_int x.hi }
-    ensures k_low { negsuc 3999999 ≤ℤ result.k }
-    ensures k_high { result.k ≤ℤ negsuc 48999 }
     ensures result { (arith.new, result.result) ≡ exp1 A.Arithmetic.ops arith.old x }
 {
     const INVLOG2: u64 = 0x40b71547652b82fe;
     let k = round_ties_even(x.hi * f64_from_bits_with_nan(INVLOG2));
     let y_dd = reduced_argument(arith, k, x);
-    let ki = as_integer(k);
+    let ki = k as i64;
     let (m, i2, i1) = reduced_indices(ki);
     let t1 = exp_reduce_0(i2);
     let t2 = exp_reduce_1(i1);
@@ -112,24 +103,8 @@ fn exp_1<A: Arithmetic>(arith: &mut A, x: DoubleDouble) -> Exp1
     Exp1 { k: ki, result: v }
 }
 
-// k is a whole number: this is only a conversion.
-fn as_small_integer(k: f64) -> i32
-    requires { T (in_signed binary64 31 k) }
-    ensures { result ≡ to_signed 31 k }
-{
-    k as i32
-}
-
-// -k as a number.
-fn negated(k: i32) -> f64
-    requires k_low { negsuc 1069 ≤ℤ k }
-    requires k_high { k ≤ℤ negsuc 11 }
-    ensures { result ≡ of_int binary64 (neg_ℤ k) }
-{
-    -k as f64
-}
-
 // x without k times log(2); j is -k.
+#[tactic(auto, unfolding(crate::specs::Exponentials::accurate_argument))]
 fn accurate_argument<A: Arithmetic>(arith: &mut A, j: f64, x_dd: DoubleDouble) -> DoubleDouble
     ensures { (arith.new, result) ≡ accurate_argument A.Arithmetic.ops arith.old j x_dd }
 {
@@ -145,18 +120,17 @@ fn accurate_argument<A: Arithmetic>(arith: &mut A, j: f64, x_dd: DoubleDouble) -
 }
 
 // Degrees 19 to 15 of the exponential's polynomial: the low part of y matters from degree 15 down.
+#[tactic(auto, unfolding(crate::specs::Exponentials::leading_degrees))]
 fn leading_degrees<A: Arithmetic>(arith: &mut A, y_dd: DoubleDouble) -> DoubleDouble
     ensures { (arith.new, result) ≡ leading_degrees A.Arithmetic.ops arith.old y_dd }
 {
-    let mut h = exp_number(19 + 8);
-    h = arith.dd_fmla(h, y_dd.hi, exp_number(18 + 8));
-    h = arith.dd_fmla(h, y_dd.hi, exp_number(17 + 8));
-    h = arith.dd_fmla(h, y_dd.hi, exp_number(16 + 8));
+    let mut h = ExpNumbers.number(19 + 8);
+    h = arith.dd_fmla(h, y_dd.hi, ExpNumbers.number(18 + 8));
+    h = arith.dd_fmla(h, y_dd.hi, ExpNumbers.number(17 + 8));
+    h = arith.dd_fmla(h, y_dd.hi, ExpNumbers.number(16 + 8));
     let mut t = arith.from_exact_mult(h, y_dd.hi);
     t.lo = arith.dd_fmla(h, y_dd.lo, t.lo);
-    let mut v = DoubleDouble::from_exact_add(exp_number(15 + 8), t.hi);
-    v.lo += t.lo;
-    v
+    ExpNumbers.plus(15 + 8, t)
 }
 
 // An accurate exponential: result * 2^e.
@@ -164,26 +138,33 @@ fn leading_degrees<A: Arithmetic>(arith: &mut A, y_dd: DoubleDouble) -> DoubleDo
 pub struct Exp {
     pub e: i32,
     pub result: DoubleDouble,
+    ghost e_low: { negsuc 1069 ≤ℤ e },
+    ghost e_high: { e ≤ℤ negsuc 11 },
 }
 
 // exp(x), for x whose multiple of log(2) lies in the tail's range.
 fn exp_accurate<A: Arithmetic>(arith: &mut A, x_dd: DoubleDouble) -> Exp
     requires { Whole (accurate_multiple x_dd.hi) 12 1070 }
     ensures e { result.e ≡ accurate_multiple_int x_dd.hi }
-    ensures e_low { negsuc 1069 ≤ℤ result.e }
-    ensures e_high { result.e ≤ℤ negsuc 11 }
     ensures result { (arith.new, result.result) ≡ exp_accurate A.Arithmetic.ops arith.old x_dd }
 {
     const LOG2INV: u64 = 0x3ff71547652b82fe;
-    let k = as_small_integer(round_ties_even(x_dd.hi * f64_from_bits_with_nan(LOG2INV)));
-    let y_dd = accurate_argument(arith, negated(k), x_dd);
+    let k = round_ties_even(x_dd.hi * f64_from_bits_with_nan(LOG2INV)) as i32;
+    let y_dd = accurate_argument(arith, -k as f64, x_dd);
     let v = leading_degrees(arith, y_dd);
-    let w = evaluate(arith, &UpperDegrees, 7, y_dd, v);
-    let result = evaluate(arith, &LowerDegrees, 8, y_dd, w);
+    let w = evaluate(
+        arith,
+        &Singles::<_, 16>(ExpNumbers),
+        ExpNumbers.turns(),
+        y_dd,
+        v,
+    );
+    let result = evaluate(arith, &Doubles(ExpNumbers), 8, y_dd, w);
     Exp { e: k, result }
 }
 
 // 1/x as a pair, by one step of Newton: y + y*(1 - x*y).
+#[tactic(auto, unfolding(crate::specs::Asymptotics::reciprocal))]
 fn reciprocal_pair<A: Arithmetic>(arith: &mut A, x: f64) -> DoubleDouble
     ensures { (arith.new, result) ≡ reciprocal A.Arithmetic.ops arith.old x }
 {
@@ -193,6 +174,7 @@ fn reciprocal_pair<A: Arithmetic>(arith: &mut A, x: f64) -> DoubleDouble
 }
 
 // The square of 1/x as a pair; the square of the low part is too small to matter.
+#[tactic(auto, unfolding(crate::specs::Asymptotics::squared))]
 fn reciprocal_square<A: Arithmetic>(arith: &mut A, y: DoubleDouble) -> DoubleDouble
     ensures { (arith.new, result) ≡ squared A.Arithmetic.ops arith.old y }
 {
@@ -202,21 +184,22 @@ fn reciprocal_square<A: Arithmetic>(arith: &mut A, y: DoubleDouble) -> DoubleDou
 }
 
 // A row's fast polynomial at u.
-fn fast_polynomial<A: Arithmetic>(arith: &mut A, row: usize, u: DoubleDouble) -> DoubleDouble
-    requires { row < 6 }
-    ensures { (arith.new, result) ≡ fast_polynomial A.Arithmetic.ops arith.old row u }
+#[tactic(auto, unfolding(crate::specs::Asymptotics::fast_polynomial))]
+fn fast_polynomial<A: Arithmetic>(
+    arith: &mut A,
+    p: AsymptoticNumbers,
+    u: DoubleDouble,
+) -> DoubleDouble
+    ensures { (arith.new, result) ≡ fast_polynomial A.Arithmetic.ops arith.old p.row u }
 {
-    let mut zh = asymptotic_number(row, 12);
-    zh = arith.dd_fmla(zh, u.hi, asymptotic_number(row, 11));
-    zh = arith.dd_fmla(zh, u.hi, asymptotic_number(row, 10));
+    let mut zh = p.number(12);
+    zh = arith.dd_fmla(zh, u.hi, p.number(11));
+    zh = arith.dd_fmla(zh, u.hi, p.number(10));
     let mut v = arith.quick_mult_f64(u, zh);
-    let mut z_dd = DoubleDouble::from_exact_add(asymptotic_number(row, 9), v.hi);
-    z_dd.lo += v.lo;
-    z_dd = evaluate(arith, &FastTerms { row }, asymptotic_turns(row), u, z_dd);
-    v = arith.quick_mult(z_dd, u);
-    z_dd = DoubleDouble::from_exact_add(asymptotic_number(row, 0), v.hi);
-    z_dd.lo += v.lo + asymptotic_number(row, 1);
-    z_dd
+    let z_dd = p.plus(9, v);
+    let w_dd = evaluate(arith, &Singles::<_, 2>(p), p.turns(), u, z_dd);
+    v = arith.quick_mult(w_dd, u);
+    p.plus_both(0, v)
 }
 
 // The bound of the error of a pair with this hi.
@@ -232,19 +215,19 @@ fn fast_error(hi: f64) -> f64
 }
 
 // erfc(x) = exp(-x^2) * p(1/x) by the fast polynomials.
-fn erfc_asympt_fast<A: Arithmetic>(arith: &mut A, x: f64) -> FastPart
-    requires { Argument x 0x4039db1bb14e15ca }
-    ensures value { (arith.new, result) ≡ fast_step A.Arithmetic.ops arith.old x }
+fn erfc_asympt_fast<A: Arithmetic>(arith: &mut A, argument: TailArgument<FAST_END>) -> FastPart
+    ensures value { (arith.new, result) ≡ fast_step A.Arithmetic.ops arith.old (from_bits binary64 argument.bits) }
     ensures row_bound { result.row < 6 }
     ensures k_low { negsuc 3999999 ≤ℤ result.k }
     ensures k_high { result.k ≤ℤ negsuc 48999 }
 {
+    let x = f64::from(argument);
     let mut u = arith.from_exact_mult(x, x);
-    let e = exp_1(arith, u.negate());
+    let e = exp_1(arith, -u);
     let y = reciprocal_pair(arith, x);
     let row = fast_row(y.hi);
     u = reciprocal_square(arith, y);
-    let z_dd = fast_polynomial(arith, row, u);
+    let z_dd = fast_polynomial(arith, AsymptoticNumbers { row }, u);
     u = arith.quick_mult(z_dd, y);
     let v = arith.quick_mult(u, e.result);
     FastPart {
@@ -258,16 +241,21 @@ fn erfc_asympt_fast<A: Arithmetic>(arith: &mut A, x: f64) -> FastPart
 }
 
 // A row's accurate polynomial at u.
-fn accurate_polynomial<A: Arithmetic>(arith: &mut A, row: usize, u_dd: DoubleDouble) -> DoubleDouble
-    requires { row < 10 }
-    ensures { (arith.new, result) ≡ accurate_polynomial A.Arithmetic.ops arith.old row u_dd }
+#[tactic(auto, unfolding(crate::specs::Asymptotics::accurate_polynomial))]
+fn accurate_polynomial<A: Arithmetic>(
+    arith: &mut A,
+    p: AccurateNumbers,
+    u_dd: DoubleDouble,
+) -> DoubleDouble
+    ensures { (arith.new, result) ≡ accurate_polynomial A.Arithmetic.ops arith.old p.row u_dd }
 {
-    let z_dd = DoubleDouble::new(0.0, accurate_number(row, row + 20));
-    let w_dd = evaluate(arith, &AccurateUpper { row }, row + 8, u_dd, z_dd);
-    evaluate(arith, &AccurateLower { row }, 6, u_dd, w_dd)
+    let z_dd = DoubleDouble::new(0.0, p.number(p.row + 20));
+    let w_dd = evaluate(arith, &Singles::<_, 12>(p), p.turns(), u_dd, z_dd);
+    evaluate(arith, &Doubles(p), 6, u_dd, w_dd)
 }
 
 // v * 2^k as one number.
+#[tactic(auto, unfolding(crate::specs::Asymptotics::scaled_value))]
 fn scaled_value(v: DoubleDouble, k: i32) -> f64
     requires k_low { negsuc 1069 ≤ℤ k }
     requires k_high { k ≤ℤ negsuc 11 }
@@ -284,19 +272,22 @@ fn scaled_value(v: DoubleDouble, k: i32) -> f64
 }
 
 // erfc(x) by the accurate polynomials: the pair before scaling.
-fn erfc_asympt_accurate<A: Arithmetic>(arith: &mut A, x: f64) -> AccuratePart
-    requires { Argument x 0x403b39dc41e48bfd }
-    ensures value { (arith.new, result) ≡ accurate_step A.Arithmetic.ops arith.old x }
+fn erfc_asympt_accurate<A: Arithmetic>(
+    arith: &mut A,
+    argument: TailArgument<TAIL_END>,
+) -> AccuratePart
+    ensures value { (arith.new, result) ≡ accurate_step A.Arithmetic.ops arith.old (from_bits binary64 argument.bits) }
     ensures row_bound { result.row < 7 }
     ensures k_low { negsuc 1069 ≤ℤ result.k }
     ensures k_high { result.k ≤ℤ negsuc 11 }
 {
+    let x = f64::from(argument);
     let mut u_dd = arith.from_exact_mult(x, x);
-    let exp_result = exp_accurate(arith, u_dd.negate());
+    let exp_result = exp_accurate(arith, -u_dd);
     let y = reciprocal_pair(arith, x);
     let row = accurate_row(y.hi);
     u_dd = reciprocal_square(arith, y);
-    let z_dd = accurate_polynomial(arith, row, u_dd);
+    let z_dd = accurate_polynomial(arith, AccurateNumbers { row }, u_dd);
     u_dd = arith.quick_mult(z_dd, y);
     u_dd = DoubleDouble::from_exact_add(u_dd.hi, u_dd.lo);
     let v = arith.quick_mult(u_dd, exp_result.result);
@@ -308,12 +299,11 @@ fn erfc_asympt_accurate<A: Arithmetic>(arith: &mut A, x: f64) -> AccuratePart
 }
 
 // A tail argument with a fast step.
-fn erfc_fast_tail<A: Arithmetic>(arith: &mut A, x: f64) -> Answer
-    requires { Argument x 0x4039db1bb14e15ca }
-    ensures value { (arith.new, result) ≡ with_fast_step A.Arithmetic.ops arith.old x }
+fn erfc_fast_tail<A: Arithmetic>(arith: &mut A, argument: TailArgument<FAST_END>) -> Answer
+    ensures value { (arith.new, result) ≡ with_fast_step A.Arithmetic.ops arith.old (from_bits binary64 argument.bits) }
     ensures within { Within result }
 {
-    let fast = erfc_asympt_fast(arith, x);
+    let fast = erfc_asympt_fast(arith, argument);
     let mut answer = Answer {
         value: fast.erf.left_end(),
         code: Code::Fast,
@@ -323,7 +313,7 @@ fn erfc_fast_tail<A: Arithmetic>(arith: &mut A, x: f64) -> Answer
     if fast.erf.is_decided() {
         return answer;
     }
-    let accurate = erfc_asympt_accurate(arith, x);
+    let accurate = erfc_asympt_accurate(arith, TailArgument::from(argument));
     answer.value = scaled_value(accurate.pair, accurate.k);
     answer.code = Code::Retried;
     answer.accurate = Some(accurate);
@@ -331,12 +321,11 @@ fn erfc_fast_tail<A: Arithmetic>(arith: &mut A, x: f64) -> Answer
 }
 
 // A tail argument without a fast step: its pair would be subnormal.
-fn erfc_far_tail<A: Arithmetic>(arith: &mut A, x: f64) -> Answer
-    requires { Argument x 0x403b39dc41e48bfd }
-    ensures value { (arith.new, result) ≡ without_fast_step A.Arithmetic.ops arith.old x }
+fn erfc_far_tail<A: Arithmetic>(arith: &mut A, argument: TailArgument<TAIL_END>) -> Answer
+    ensures value { (arith.new, result) ≡ without_fast_step A.Arithmetic.ops arith.old (from_bits binary64 argument.bits) }
     ensures within { Within result }
 {
-    let accurate = erfc_asympt_accurate(arith, x);
+    let accurate = erfc_asympt_accurate(arith, argument);
     Answer {
         value: scaled_value(accurate.pair, accurate.k),
         code: Code::Accurate,
@@ -357,30 +346,27 @@ fn answer_without_step(value: f64, code: Code) -> Answer
 }
 
 // The answer of an argument of this class.
-fn answer_of<A: Arithmetic>(arith: &mut A, class: Class, bits: u64) -> Result<Answer, Refusal>
-    requires { class ≡ class_of bits }
+fn answer_of<A: Arithmetic>(arith: &mut A, class: Class, bits: u64) -> Answer
+    requires { Ok class ≡ class_of bits }
     ensures value { (arith.new, result) ≡ answer_of A.Arithmetic.ops class arith.old (from_bits binary64 bits) }
-    ensures within { OutcomeWithin result }
+    ensures within { Within result }
 {
     match class {
-        Class::Nan => Ok(answer_without_step(f64::NAN, Code::Nan)),
-        Class::Zero => Ok(answer_without_step(0.0, Code::Flat)),
-        Class::Two => Ok(answer_without_step(2.0, Code::Flat)),
-        Class::One => Ok(answer_without_step(1.0, Code::One)),
-        Class::FastTail => Ok(erfc_fast_tail(arith, f64_from_bits_with_nan(bits))),
-        Class::FarTail => Ok(erfc_far_tail(arith, f64_from_bits_with_nan(bits))),
-        Class::Listed => Ok(answer_without_step(
-            f64_from_bits_with_nan(LISTED_ANSWER),
-            Code::Listed,
-        )),
-        Class::Refused(refusal) => Err(refusal),
+        Class::Nan => answer_without_step(f64::NAN, Code::Nan),
+        Class::Zero => answer_without_step(0.0, Code::Flat),
+        Class::Two => answer_without_step(2.0, Code::Flat),
+        Class::One => answer_without_step(1.0, Code::One),
+        Class::FastTail => erfc_fast_tail(arith, TailArgument { bits }),
+        Class::FarTail => erfc_far_tail(arith, TailArgument { bits }),
+        Class::Listed => answer_without_step(f64_from_bits_with_nan(LISTED_ANSWER), Code::Listed),
     }
 }
 
 // Complementary error function of the f64 with these bits: NaN, the flat ends and the tail.
+#[tactic(auto, unfolding(crate::specs::Answers::evaluation))]
 pub fn f_erfc<A: Arithmetic>(arith: &mut A, bits: u64) -> Result<Answer, Refusal>
     ensures value { (arith.new, result) ≡ evaluation A.Arithmetic.ops arith.old bits }
     ensures within { OutcomeWithin result }
 {
-    answer_of(arith, classify(bits), bits)
+    Ok(answer_of(arith, classify(bits)?, bits))
 }

@@ -72,6 +72,7 @@ fn scaled_up(d: f64, i: i32) -> f64
 }
 
 // d * 2^i, in at most three products.
+#[tactic(auto, unfolding(crate::specs::Scaling::ldexp_of))]
 pub(crate) fn ldexp_steps(d: f64, i: i32) -> f64
     ensures { result ≡ ldexp_of d i }
 {

@@ -1,23 +1,13 @@
 // pxfm's src/err/erfc.rs: its tables, as the bits of f64 numbers.
-ghost use Rattle.std.specs.Prelude.{◌≡◌, ◌<◌, [], get_or};
-ghost use Rattle.tables.specs.Erfc.{fast_rows, accurate_rows, exp_numbers, fast_number, accurate_number, exp_number};
+ghost use Rattle.std.specs.Prelude.{◌+◌, ◌<◌};
+ghost use Rattle.std.proofs.Common.{lit<};
+ghost use Rattle.tables.specs.Erfc.{fast_number, accurate_number, exp_number};
 
-// The numbers of one row of the fast polynomial: p0 and p1 stand for one coefficient. `turns` of them are added to pairs
-// in a loop; it stands in the row because a count that the compiler knows makes it unroll the loop, which costs 12 ns an answer.
-#[derive(Clone, Copy)]
-pub struct AsymptoticRow {
-    pub p: [u64; 13],
-    pub turns: usize,
-}
+use crate::numbers::{Numbers, Row, number_at, number_in, turns_in};
 
-// The numbers of one row of the accurate polynomial: six coefficients of two numbers each, then single ones, then zeros.
-#[derive(Clone, Copy)]
-pub struct AccurateRow {
-    pub p: [u64; 30],
-}
-
-pub static ASYMPTOTIC_POLY: [AsymptoticRow; 6] = [
-    AsymptoticRow {
+// p0 and p1 stand for one coefficient; `turns` of the numbers from p2 on are added to pairs in a loop.
+pub static ASYMPTOTIC_POLY: [Row<13>; 6] = [
+    Row {
         p: [
             0x3fe20dd750429b6d,
             0x3c61a1feb75a48a8,
@@ -35,7 +25,7 @@ pub static ASYMPTOTIC_POLY: [AsymptoticRow; 6] = [
         ],
         turns: 7,
     },
-    AsymptoticRow {
+    Row {
         p: [
             0x3fe20dd750429ae7,
             0x3c863da89e801fd4,
@@ -53,7 +43,7 @@ pub static ASYMPTOTIC_POLY: [AsymptoticRow; 6] = [
         ],
         turns: 7,
     },
-    AsymptoticRow {
+    Row {
         p: [
             0x3fe20dd75041e3fc,
             0xbc7c9b491c4920fc,
@@ -71,7 +61,7 @@ pub static ASYMPTOTIC_POLY: [AsymptoticRow; 6] = [
         ],
         turns: 7,
     },
-    AsymptoticRow {
+    Row {
         p: [
             0x3fe20dd75025cfe9,
             0x3c55a92eef32fb20,
@@ -89,7 +79,7 @@ pub static ASYMPTOTIC_POLY: [AsymptoticRow; 6] = [
         ],
         turns: 7,
     },
-    AsymptoticRow {
+    Row {
         p: [
             0x3fe20dd74eb31d84,
             0xbc439c4054b7c090,
@@ -107,7 +97,7 @@ pub static ASYMPTOTIC_POLY: [AsymptoticRow; 6] = [
         ],
         turns: 7,
     },
-    AsymptoticRow {
+    Row {
         p: [
             0x3fe20dd744b3517b,
             0xbc6f77ab25e01ab4,
@@ -127,8 +117,9 @@ pub static ASYMPTOTIC_POLY: [AsymptoticRow; 6] = [
     },
 ];
 
-pub static ASYMPTOTIC_POLY_ACCURATE: [AccurateRow; 10] = [
-    AccurateRow {
+// Six coefficients of two numbers each, then single ones, then zeros; `turns` of the single ones are added to pairs in a loop.
+pub static ASYMPTOTIC_POLY_ACCURATE: [Row<30>; 10] = [
+    Row {
         p: [
             0x3fe20dd750429b6d,
             0x3c61ae3a912b08f0,
@@ -161,8 +152,9 @@ pub static ASYMPTOTIC_POLY_ACCURATE: [AccurateRow; 10] = [
             0x0000000000000000,
             0x0000000000000000,
         ],
+        turns: 8,
     },
-    AccurateRow {
+    Row {
         p: [
             0x3fe20dd750429b6d,
             0x3c61adaa62435c10,
@@ -195,8 +187,9 @@ pub static ASYMPTOTIC_POLY_ACCURATE: [AccurateRow; 10] = [
             0x0000000000000000,
             0x0000000000000000,
         ],
+        turns: 9,
     },
-    AccurateRow {
+    Row {
         p: [
             0x3fe20dd750429b6d,
             0x3c5d3c35b5d37410,
@@ -229,8 +222,9 @@ pub static ASYMPTOTIC_POLY_ACCURATE: [AccurateRow; 10] = [
             0x0000000000000000,
             0x0000000000000000,
         ],
+        turns: 10,
     },
-    AccurateRow {
+    Row {
         p: [
             0x3fe20dd750429b6a,
             0x3c8ae622b765e9fd,
@@ -263,8 +257,9 @@ pub static ASYMPTOTIC_POLY_ACCURATE: [AccurateRow; 10] = [
             0x0000000000000000,
             0x0000000000000000,
         ],
+        turns: 11,
     },
-    AccurateRow {
+    Row {
         p: [
             0x3fe20dd750429a8f,
             0xbc766d8dda59bcea,
@@ -297,8 +292,9 @@ pub static ASYMPTOTIC_POLY_ACCURATE: [AccurateRow; 10] = [
             0x0000000000000000,
             0x0000000000000000,
         ],
+        turns: 12,
     },
-    AccurateRow {
+    Row {
         p: [
             0x3fe20dd75042756b,
             0x3c84ad9178b56910,
@@ -331,8 +327,9 @@ pub static ASYMPTOTIC_POLY_ACCURATE: [AccurateRow; 10] = [
             0x0000000000000000,
             0x0000000000000000,
         ],
+        turns: 13,
     },
-    AccurateRow {
+    Row {
         p: [
             0x3fe20dd7503e730d,
             0x3c84e524a098a467,
@@ -365,8 +362,9 @@ pub static ASYMPTOTIC_POLY_ACCURATE: [AccurateRow; 10] = [
             0x0000000000000000,
             0x0000000000000000,
         ],
+        turns: 14,
     },
-    AccurateRow {
+    Row {
         p: [
             0x3fe20dd74ff10852,
             0x3c8a32f26deff875,
@@ -399,8 +397,9 @@ pub static ASYMPTOTIC_POLY_ACCURATE: [AccurateRow; 10] = [
             0x0000000000000000,
             0x0000000000000000,
         ],
+        turns: 15,
     },
-    AccurateRow {
+    Row {
         p: [
             0x3fe20dd74ba8f300,
             0xbc59dd256871d210,
@@ -433,8 +432,9 @@ pub static ASYMPTOTIC_POLY_ACCURATE: [AccurateRow; 10] = [
             0x4123605e980e8b86,
             0x0000000000000000,
         ],
+        turns: 16,
     },
-    AccurateRow {
+    Row {
         p: [
             0x3fe20dd7319d4d25,
             0x3c82b02992c3b7ab,
@@ -467,6 +467,7 @@ pub static ASYMPTOTIC_POLY_ACCURATE: [AccurateRow; 10] = [
             0x40ff3327698e0e6b,
             0xc0d094febc3dff35,
         ],
+        turns: 17,
     },
 ];
 
@@ -502,59 +503,74 @@ pub static E2: [u64; 28] = [
     0x3c6abfe1602308c9,
 ];
 
-fn asymptotic_poly_bits(row: usize, n: usize) -> u64
-    requires row_in { row < 6 }
-    requires n_in { n < 13 }
-    ensures { result ≡ get_or (get_or fast_rows row []) n 0 }
-{
-    ASYMPTOTIC_POLY[row].p[n]
+// The numbers of a row of the fast polynomial.
+#[derive(Clone, Copy)]
+pub struct AsymptoticNumbers {
+    pub row: usize,
+    ghost within: { row < 6 },
 }
 
-// Number n of a row of the fast polynomial.
-pub fn asymptotic_number(row: usize, n: usize) -> f64
-    requires row_in { row < 6 }
-    requires n_in { n < 13 }
-    ensures { result ≡ fast_number row n }
-{
-    f64::from_bits(asymptotic_poly_bits(row, n))
+impl Numbers for AsymptoticNumbers {
+    ghost count = { λ _. 13 };
+
+    ghost numbers = { λ r. fast_number r.row };
+
+    ghost turns = { λ _. 7 };
+
+    ghost fits = { λ _. lit< tt };
+
+    fn number(&self, n: usize) -> f64 {
+        number_in(&ASYMPTOTIC_POLY, self.row, n)
+    }
+
+    fn turns(&self) -> usize {
+        turns_in(&ASYMPTOTIC_POLY, self.row)
+    }
 }
 
-// How many numbers of a row the loop over pairs adds.
-pub fn asymptotic_turns(row: usize) -> usize
-    requires { row < 6 }
-    ensures { result ≡ 7 }
-{
-    ASYMPTOTIC_POLY[row].turns
+// The numbers of a row of the accurate polynomial.
+#[derive(Clone, Copy)]
+pub struct AccurateNumbers {
+    pub row: usize,
+    ghost within: { row < 10 },
 }
 
-fn asymptotic_poly_accurate_bits(row: usize, n: usize) -> u64
-    requires row_in { row < 10 }
-    requires n_in { n < 30 }
-    ensures { result ≡ get_or (get_or accurate_rows row []) n 0 }
-{
-    ASYMPTOTIC_POLY_ACCURATE[row].p[n]
+impl Numbers for AccurateNumbers {
+    ghost count = { λ _. 30 };
+
+    ghost numbers = { λ r. accurate_number r.row };
+
+    ghost turns = { λ r. r.row + 8 };
+
+    ghost fits = { λ _. lit< tt };
+
+    fn number(&self, n: usize) -> f64 {
+        number_in(&ASYMPTOTIC_POLY_ACCURATE, self.row, n)
+    }
+
+    fn turns(&self) -> usize {
+        turns_in(&ASYMPTOTIC_POLY_ACCURATE, self.row)
+    }
 }
 
-// Number n of a row of the accurate polynomial.
-pub fn accurate_number(row: usize, n: usize) -> f64
-    requires row_in { row < 10 }
-    requires n_in { n < 30 }
-    ensures { result ≡ accurate_number row n }
-{
-    f64::from_bits(asymptotic_poly_accurate_bits(row, n))
-}
+// The numbers of the accurate exponential's polynomial.
+#[derive(Clone, Copy)]
+pub struct ExpNumbers;
 
-fn e2_bits(n: usize) -> u64
-    requires { n < 28 }
-    ensures { result ≡ get_or exp_numbers n 0 }
-{
-    E2[n]
-}
+impl Numbers for ExpNumbers {
+    ghost count = { λ _. 28 };
 
-// Number n of the accurate exponential's polynomial.
-pub fn exp_number(n: usize) -> f64
-    requires { n < 28 }
-    ensures { result ≡ exp_number n }
-{
-    f64::from_bits(e2_bits(n))
+    ghost numbers = { λ _. exp_number };
+
+    ghost turns = { λ _. 7 };
+
+    ghost fits = { λ _. lit< tt };
+
+    fn number(&self, n: usize) -> f64 {
+        number_at(&E2, n)
+    }
+
+    fn turns(&self) -> usize {
+        7
+    }
 }

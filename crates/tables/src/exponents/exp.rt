@@ -1,6 +1,9 @@
 // pxfm's src/exponents/exp.rs: the tables of 2^(i/64) and 2^(i/4096), each entry the bits of lo and of hi.
-ghost use Rattle.std.specs.Prelude.{◌≡◌, ◌<◌, get_or};
-ghost use Rattle.tables.specs.Exp.{reduce_table0, reduce_table1, reduce0, reduce1};
+ghost use Rattle.std.specs.Prelude.{◌≡◌, ◌<◌, true, length, get_or};
+ghost use Rattle.std.specs.List.{list_all};
+ghost use Rattle.double_double.specs.Pairs.{bit_pair};
+ghost use Rattle.tables.specs.Finite.{are_finite};
+ghost use Rattle.tables.specs.Exp.{reduce0, reduce1};
 
 use double_double::double_double::DoubleDouble;
 
@@ -138,18 +141,15 @@ pub static EXP_REDUCE_T1: [(u64, u64); 64] = [
     (0x3c9e471202234680, 0x3ff02be6e199c811),
 ];
 
-fn exp_reduce_t0_bits(i: usize) -> (u64, u64)
-    requires { i < 64 }
-    ensures { result ≡ get_or reduce_table0 i (0, 0) }
+// The pair whose bits stand at place i.
+#[tactic(auto, using(crate::proofs::Finite::no_nan_low, crate::proofs::Finite::no_nan_high))]
+fn entry(table: &[(u64, u64)], i: usize) -> DoubleDouble
+    requires i_in { i < length table.now }
+    requires finite { list_all are_finite table.now ≡ true }
+    ensures { result ≡ bit_pair (get_or table.now i (0, 0)) }
 {
-    EXP_REDUCE_T0[i]
-}
-
-fn exp_reduce_t1_bits(i: usize) -> (u64, u64)
-    requires { i < 64 }
-    ensures { result ≡ get_or reduce_table1 i (0, 0) }
-{
-    EXP_REDUCE_T1[i]
+    let (lo, hi) = table[i];
+    DoubleDouble::new(f64::from_bits(lo), f64::from_bits(hi))
 }
 
 // 2^(i/64)
@@ -157,8 +157,7 @@ pub fn exp_reduce_0(i: usize) -> DoubleDouble
     requires { i < 64 }
     ensures { result ≡ reduce0 i }
 {
-    let pair = exp_reduce_t0_bits(i);
-    DoubleDouble::new(f64::from_bits(pair.0), f64::from_bits(pair.1))
+    entry(&EXP_REDUCE_T0, i)
 }
 
 // 2^(i/4096)
@@ -166,6 +165,5 @@ pub fn exp_reduce_1(i: usize) -> DoubleDouble
     requires { i < 64 }
     ensures { result ≡ reduce1 i }
 {
-    let pair = exp_reduce_t1_bits(i);
-    DoubleDouble::new(f64::from_bits(pair.0), f64::from_bits(pair.1))
+    entry(&EXP_REDUCE_T1, i)
 }

@@ -1,22 +1,18 @@
 use Rattle.std.proofs.Common.{sym, ◌∙◌, arith}
-use Rattle.replay.proofs.Digits.{next_below, below_60, digit_more, digit_none, digits_all}
+use Rattle.replay.proofs.Digits.{next_below, below_60, digit_more, digits_all}
 use Rattle.replay.proofs.line.hex.Goals as goal
 
 pub overflow_mul-value : goal.overflow_mul-value
 overflow_mul-value c = let h = below_60 c.loop-b.value c.loop-b.b-index c.loop-b.invariant.0 (omega arith) in omega arith
 
 pub overflow_add-value : goal.overflow_add-value
-overflow_add-value c = let h = below_60 c.loop-b.value c.loop-b.b-index c.loop-b.invariant.0 (omega arith) in omega (arith, c.in-Some.ensures.bound)
+overflow_add-value c = let h = below_60 c.loop-b.value c.loop-b.b-index c.loop-b.invariant.0 (omega arith) in omega (arith, c.in_ok-value.ensures.bound)
 
 pub loop-b-preserved : goal.loop-b-preserved
 loop-b-preserved c = (
-  next_below c.loop-b.value c.in-Some.d c.loop-b.b-index c.loop-b.invariant.0 c.in-Some.ensures.bound,
-  sym (digit_more c.args.digits.now c.loop-b.value c.loop-b.b-index c.in-Some.d c.loop-b-test.true (sym c.in-Some.ensures.value)) ∙ c.loop-b.invariant.1,
+  next_below c.loop-b.value c.in_ok-value.field-0 c.loop-b.b-index c.loop-b.invariant.0 c.in_ok-value.ensures.bound,
+  sym (digit_more c.args.digits.now c.loop-b.value c.loop-b.b-index c.in_ok-value.field-0 c.loop-b-test.true (sym c.in_ok-value.ensures.value)) ∙ c.loop-b.invariant.1,
 )
-
-pub returns-in-None : goal.returns-in-None
-returns-in-None c =
-    sym (digit_none c.args.digits.now c.loop-b.value c.loop-b.b-index c.loop-b-test.true (sym c.in-None.ensures.value)) ∙ c.loop-b.invariant.1
 
 pub returns : goal.returns
 returns c = sym (digits_all c.args.digits.now c.loop-b.value c.loop-b.b-index c.loop-b-test.false) ∙ c.loop-b.invariant.1

@@ -1,22 +1,21 @@
-use Rattle.std.proofs.Common.{◌<◌, lit≤, rules}
+use Rattle.std.proofs.Common.{lit≤, rules}
 use Rattle.erfc.specs.Asymptotics.{fast_step}
 use Rattle.erfc.specs.Rows.{fast_end}
-use Rattle.erfc.proofs.Tail.{fast_whole, fast_row_within, reciprocal_high}
+use Rattle.erfc.proofs.Tail.{argument, fast_whole, fast_row_within, reciprocal_high}
 use Rattle.erfc.proofs.err.erfc.erfc_asympt_fast.Goals as goal
 
 pub exp_1-e-requires : goal.exp_1-e-requires
 exp_1-e-requires g c =
-    fast_whole g.A.Arithmetic.ops g.met.A.Arithmetic.meaning _ _ _ _ c.args.x c.requires c.from_exact_mult-u.ensures c.negate.ensures
+    fast_whole g.A.Arithmetic.ops g.met.A.Arithmetic.meaning _ _ _ _ c.from-x.result
+    (argument c.args.argument.bits fast_end c.args.argument.first c.args.argument.below c.from-x.ensures) c.from_exact_mult-u.ensures c.neg.ensures
 
-pub fast_polynomial-z_dd-requires : goal.fast_polynomial-z_dd-requires
-fast_polynomial-z_dd-requires g c =
-    fast_row_within c.args.x fast_end c.requires (lit≤ tt) _ _
-    (reciprocal_high g.A.Arithmetic.ops g.met.A.Arithmetic.meaning _ _ _ c.args.x c.reciprocal_pair-y.ensures) c.fast_row-row.ensures
+pub invariant_of-fast_polynomial : goal.invariant_of-fast_polynomial
+invariant_of-fast_polynomial g c =
+    record {
+      within = fast_row_within c.from-x.result fast_end (argument c.args.argument.bits fast_end c.args.argument.first c.args.argument.below c.from-x.ensures) (lit≤ tt) _ _
+          (reciprocal_high g.A.Arithmetic.ops g.met.A.Arithmetic.meaning _ _ _ c.from-x.result c.reciprocal_pair-y.ensures) c.fast_row-row.ensures;
+    }
 
-pub returns : goal.returns
+pub returns-clause-value : goal.returns-clause-value
 unfolding fast_step
-returns g c =
-    let row : c.fast_row-row.result < 6 =
-    fast_row_within c.args.x fast_end c.requires (lit≤ tt) _ _
-    (reciprocal_high g.A.Arithmetic.ops g.met.A.Arithmetic.meaning _ _ _ c.args.x c.reciprocal_pair-y.ensures) c.fast_row-row.ensures in
-    record { value = search rules; row_bound = search rules; k_low = search rules; k_high = search rules }
+returns-clause-value g c = search rules
