@@ -1,6 +1,7 @@
 -- An arithmetic by what its functions answer, and what every arithmetic promises. Definitions only.
-use Rattle.std.specs.Prelude.{Float}
-use Rattle.ieee.specs.Meaning.{Operand, ProductMeans, PairsMean, NumberMeans, MaddMeans}
+use Rattle.std.specs.Prelude.{◌≡◌, ◌+ℤ◌, ◌*ℤ◌, Float}
+use Rattle.ieee.specs.Val.{val}
+use Rattle.ieee.specs.Meaning.{Operand, Settled, fine, ProductMeans, PairsMean, NumberMeans, MaddMeans}
 use Rattle.double_double.specs.declared.double_double.DoubleDouble.{DoubleDouble}
 
 -- with states in S: from a state and the operands, the state that is left and the answer
@@ -19,3 +20,7 @@ pub record Meaning {S : Type 0} (o : Ops S) : Type 0 where
   pub pair_times_number : (s : S) (a : DoubleDouble) (b : Float) → Operand a.lo → Operand a.hi → Operand b →
       NumberMeans a.lo a.hi b (o.pair_times_number s a b).1.lo (o.pair_times_number s a b).1.hi
   pub multiply_add : (s : S) (a b c : Float) → Operand a → Operand b → Operand c → MaddMeans a b c (o.multiply_add s a b c).1
+
+-- the product pair is a b itself where that is zero or at least 2 ^ -900 in size
+abbrev pub ProductsAreExact : {S : Type 0} → Ops S → Type 0
+ProductsAreExact {S = S} o = (s : S) (a b : Float) → Operand a → Operand b → Settled a b → fine (val (o.product s a b).1.hi +ℤ val (o.product s a b).1.lo) ≡ val a *ℤ val b

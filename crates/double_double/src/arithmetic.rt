@@ -1,6 +1,8 @@
 // The interface: what pxfm chooses at compile time.
-ghost use Rattle.std.specs.Prelude.{◌≡◌, ℕ};
-ghost use Rattle.double_double.specs.Ops.{Ops, Meaning};
+ghost use Rattle.std.specs.Prelude.{◌≡◌, ℕ, ◌+ℤ◌, ◌*ℤ◌};
+ghost use Rattle.ieee.specs.Val.{val};
+ghost use Rattle.ieee.specs.Meaning.{Operand, Settled, fine};
+ghost use Rattle.double_double.specs.Ops.{Ops, Meaning, ProductsAreExact};
 
 use crate::double_double::DoubleDouble;
 
@@ -31,4 +33,17 @@ pub trait Arithmetic {
         ensures { (self.new, result) ≡ ops.multiply_add self.old a b c };
 
     ghost meaning: { Meaning ops };
+}
+
+// An arithmetic whose product pair is a * b itself, where that is zero or at least 2^-900 in size.
+pub trait ExactProducts: Arithmetic {
+    ghost exact: { ProductsAreExact Self.ops };
+}
+
+// a * b as a pair, exact where it is zero or at least 2^-900 in size.
+pub fn from_exact_mult<A: ExactProducts>(arith: &mut A, a: f64, b: f64) -> DoubleDouble
+    ensures value { (arith.new, result) ≡ A.ops.product arith.old a b }
+    ensures exact { Operand a → Operand b → Settled a b → fine (val result.hi +ℤ val result.lo) ≡ val a *ℤ val b }
+{
+    arith.from_exact_mult(a, b)
 }

@@ -1,14 +1,13 @@
 // The branch with fma, its multiply-add in integer code.
-ghost use Rattle.std.specs.Prelude.{◌≡◌, ◌+ℤ◌, ◌*ℤ◌};
+ghost use Rattle.std.specs.Prelude.{◌≡◌};
 ghost use Rattle.std.specs.Float.{float_mul_add, binary64};
-ghost use Rattle.ieee.specs.Val.{val};
-ghost use Rattle.ieee.specs.Meaning.{Operand, Settled, fine};
 ghost use Rattle.double_double.specs.Domain.{Domain};
 ghost use Rattle.double_double.specs.Plain.{plain_multiply_add};
 ghost use Rattle.double_double.specs.Fused.{bounded, reaches, fused_domain, low_is_exact, fused_multiply_add, fused_product, fused_ops};
 ghost use Rattle.double_double.specs.Meanings.{fused_meaning};
+ghost use Rattle.double_double.specs.FusedMeaning.{fused_exact};
 
-use crate::arithmetic::Arithmetic;
+use crate::arithmetic::{Arithmetic, ExactProducts};
 use crate::double_double::DoubleDouble;
 use crate::plain;
 use std::num::f64_from_bits_with_nan;
@@ -35,7 +34,7 @@ fn product_reaches(a: f64, b: f64) -> bool
     if least == size {
         // 2^480, so that nothing that was lost lies below the smallest f64
         let up = f64_from_bits_with_nan(0x5df0000000000000);
-        let p = plain::from_exact_mult(a.abs() * up, b.abs() * up);
+        let p = plain::dekker_product(a.abs() * up, b.abs() * up);
         return 0.0 <= p.lo;
     }
     false
@@ -87,21 +86,13 @@ fn low_part_is_exact(a: f64, b: f64, hi: f64) -> bool
 fn fused_product(a: f64, b: f64) -> DoubleDouble
     ensures { result ≡ fused_product a b }
 {
-    let p = plain::from_exact_mult(a, b);
+    let p = plain::dekker_product(a, b);
     if low_part_is_exact(a, b, p.hi) {
         // both low parts are a * b - hi; the sum makes a zero positive
         return DoubleDouble::new(p.lo + 0.0, p.hi);
     }
     let r_lo = multiply_add(a, b, -p.hi);
     DoubleDouble::new(r_lo, p.hi)
-}
-
-// a * b as a pair, exact where it is zero or at least 2^-900 in size.
-pub fn from_exact_mult(a: f64, b: f64) -> DoubleDouble
-    ensures value { result ≡ fused_product a b }
-    ensures exact { Operand a → Operand b → Settled a b → fine (val result.hi +ℤ val result.lo) ≡ val a *ℤ val b }
-{
-    fused_product(a, b)
 }
 
 impl Arithmetic for Fused {
@@ -135,4 +126,8 @@ impl Arithmetic for Fused {
     fn dd_fmla(&mut self, a: f64, b: f64, c: f64) -> f64 {
         multiply_add(a, b, c)
     }
+}
+
+impl ExactProducts for Fused {
+    ghost exact = { λ s. fused_exact };
 }

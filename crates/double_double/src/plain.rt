@@ -1,30 +1,21 @@
 // The branch without fma: Veltkamp's halves and Dekker's product.
-ghost use Rattle.std.specs.Prelude.{◌≡◌, ◌+ℤ◌, ◌*ℤ◌};
-ghost use Rattle.ieee.specs.Val.{val};
-ghost use Rattle.ieee.specs.Meaning.{Operand, Settled, fine};
+ghost use Rattle.std.specs.Prelude.{◌≡◌};
 ghost use Rattle.double_double.specs.Plain.{plain_product, plain_multiply_add, plain_ops};
 ghost use Rattle.double_double.specs.Meanings.{plain_meaning};
+ghost use Rattle.double_double.specs.PlainMeaning.{plain_exact};
 
-use crate::arithmetic::Arithmetic;
+use crate::arithmetic::{Arithmetic, ExactProducts};
 use crate::double_double::DoubleDouble;
 
 #[derive(Clone, Copy, Drop)]
 pub struct Plain;
 
 // a * b by Dekker.
-fn dekker_product(a: f64, b: f64) -> DoubleDouble
+pub(crate) fn dekker_product(a: f64, b: f64) -> DoubleDouble
     ensures { result ≡ plain_product a b }
 {
     let splat = DoubleDouble::split(a);
     DoubleDouble::from_exact_mult_impl_non_fma(splat, a, b)
-}
-
-// a * b as a pair, exact where it is zero or at least 2^-900 in size.
-pub fn from_exact_mult(a: f64, b: f64) -> DoubleDouble
-    ensures value { result ≡ plain_product a b }
-    ensures exact { Operand a → Operand b → Settled a b → fine (val result.hi +ℤ val result.lo) ≡ val a *ℤ val b }
-{
-    dekker_product(a, b)
 }
 
 // a * b + c from the product pair: not rounded once, but nearly always as if.
@@ -69,4 +60,8 @@ impl Arithmetic for Plain {
     fn dd_fmla(&mut self, a: f64, b: f64, c: f64) -> f64 {
         dd_f64_mul_add(a, b, c)
     }
+}
+
+impl ExactProducts for Plain {
+    ghost exact = { λ s. plain_exact };
 }

@@ -11,7 +11,7 @@ returns-then-low_part_is_exact c =
     let b = c.args.b in
     let f : T (fits binary64 a) = search rules in
     let g : T (fits binary64 b) = search rules in
-    let e = c.from_exact_mult-p.ensures.value in
+    let e = c.dekker_product-p.ensures in
     let t = subst (λ (p : DoubleDouble). T (low_is_exact a b p.hi)) e (subst T c.if-low_part_is_exact.ensures tt) in
     c.new.ensures
     ∙ ap (λ (p : DoubleDouble). record { lo = add binary64 p.lo zero; hi = p.hi }) e
