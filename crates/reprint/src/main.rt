@@ -9,7 +9,6 @@ use replay::compare::{Comparison, Counts, Expected, replay};
 use replay::line::{LENGTH, Line, Malformed};
 use std::io::{BufRead, BufReader, Read};
 use std::{fmt, io};
-use thiserror::Error;
 
 // An answer that differs from the expected one.
 #[derive(Clone, Copy)]
@@ -71,12 +70,22 @@ impl<A: Arithmetic> fmt::Display for Side<A> {
 }
 
 // Why no line was read.
-#[derive(Debug, Drop, Error)]
+#[derive(Drop)]
 enum ReadError {
-    #[error(transparent)]
-    Io(#[from] io::Error),
-    #[error(transparent)]
-    Malformed(#[from] Malformed),
+    Io(io::Error),
+    Malformed(Malformed),
+}
+
+impl From<io::Error> for ReadError {
+    fn from(error: io::Error) -> Self {
+        ReadError::Io(error)
+    }
+}
+
+impl From<Malformed> for ReadError {
+    fn from(fault: Malformed) -> Self {
+        ReadError::Malformed(fault)
+    }
 }
 
 // The next line, or none at the end of the input.
@@ -106,12 +115,11 @@ fn main(rt: HostRuntime) -> anyhow::Result<()> {
         let line = match next_line(&mut input, &mut bytes) {
             Ok(Some(line)) => line,
             Ok(None) => break,
-            Err(error) => {
-                if let ReadError::Malformed(_) = error {
-                    println!(rt; "fault,{number}")?;
-                }
-                return Err(error.into());
+            Err(ReadError::Malformed(fault)) => {
+                println!(rt; "fault,{number}")?;
+                return Err(fault.into());
             }
+            Err(ReadError::Io(error)) => return Err(error.into()),
         };
         match plain.take(Expected {
             argument: line.argument,
