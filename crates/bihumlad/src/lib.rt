@@ -9,7 +9,7 @@ use double_double::arithmetic::Arithmetic;
 use erfc::answer::{Answer, Refusal};
 use erfc::err::erfc::f_erfc;
 
-// A value and its code; a refused argument has NaN and code 7 or 8.
+// A value and its code; a refused argument has NaN and code 7 or 8. The code is a number, since C has no enum with a value.
 #[repr(C)]
 #[derive(Clone, Copy)]
 pub struct Evaluated {

@@ -13,6 +13,7 @@ use bihumlad::{Evaluated, evaluate};
 use double_double::fused::Fused;
 use double_double::plain::Plain;
 
+// Two functions, since C calls each by its name.
 #[unsafe(no_mangle)]
 pub extern "C" fn bihumlad_erfc_plain(bits: u64) -> Evaluated
     ensures { (s : PlainState) → result ≡ crossing (evaluation plain_ops s bits).1 }

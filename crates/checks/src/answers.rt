@@ -5,7 +5,7 @@ use erfc::err::erfc::f_erfc;
 use std::num::f64_to_bits_with_nan;
 use std::test::Fail;
 
-// An argument with its value, code, fast row and k, accurate row and K.
+// An argument with its value, code, fast row and k, accurate row and K. The code is the number that callers see, so that its number is tested too.
 #[derive(Clone, Copy)]
 struct Figure {
     bits: u64,
@@ -127,7 +127,7 @@ fn figures(rt: HostRuntime) -> Result<(), Fail> {
     Ok(())
 }
 
-// The first and the last argument of each refused range.
+// The first and the last argument of each refused range, with the number of the refusal.
 const REFUSED: [(u64, u8); 6] = [
     (0x3c8c5bf891b4ef6b, 1),
     (0x3ff0000000000000, 1),

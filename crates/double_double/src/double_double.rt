@@ -20,7 +20,7 @@ impl DoubleDouble {
         DoubleDouble { lo, hi }
     }
 
-    // A table entry: the bits of lo and of hi.
+    // A table entry: the bits of lo and of hi. Under the Rust's name, as `to_f64` is.
     pub fn from_bit_pair(pair: (u64, u64)) -> Self
         ensures { result ≡ bit_pair pair }
     {

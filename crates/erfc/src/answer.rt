@@ -72,7 +72,7 @@ impl From<Refusal> for u8 {
     }
 }
 
-// The two ends of the rounding test, each rounded, where there was a fast step.
+// The two ends of the rounding test, each rounded; whoever finds no fast part stops there.
 pub fn rounded_ends(record: &Answer) -> Option<(f64, f64)>
     ensures { result ≡ ends_of «record».now }
 {

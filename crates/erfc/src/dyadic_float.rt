@@ -11,6 +11,7 @@ pub enum DyadicSign {
 }
 
 impl DyadicSign {
+    // Under the Rust's name.
     pub fn to_bit(self) -> u8
         ensures { result ≡ sign_bit self }
     {
@@ -18,7 +19,7 @@ impl DyadicSign {
     }
 }
 
-// The f64 with this sign, exponent field and digits; bits that run over are dropped, as in the Rust.
+// The f64 with this sign, exponent field and digits, under the Rust's name; bits that run over are dropped, as in the Rust.
 pub fn f64_from_parts(sign: DyadicSign, exp: u64, mantissa: u64) -> f64
     ensures { result ≡ from_parts sign exp mantissa }
 {

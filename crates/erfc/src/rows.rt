@@ -4,7 +4,7 @@ ghost use Rattle.erfc.specs.Rows.{first_not_below, fast_row, accurate_row};
 
 use std::num::f64_from_bits_with_nan;
 
-// A row serves 1/x up to its threshold.
+// A row serves 1/x up to its threshold. Rows and thresholds are tables of their own, as in the Rust.
 static THRESHOLD: [u64; 6] = [
     0x3fbd500000000000,
     0x3fc59da6ca291ba6,
@@ -37,6 +37,7 @@ fn first_row(thresholds: &[u64], yh: f64) -> usize
         .count()
 }
 
+// Two functions over one search: no contract can name a table in the code, so each states which list its table is.
 pub fn fast_row(yh: f64) -> usize
     ensures { result ≡ fast_row yh }
 {

@@ -49,7 +49,7 @@ fn q_1<A: Arithmetic>(arith: &mut A, z_dd: DoubleDouble) -> DoubleDouble
     DoubleDouble::f64_add(f64_from_bits_with_nan(C[0]), v)
 }
 
-// k as 4096 m + 64 i2 + i1.
+// k as 4096 m + 64 i2 + i1: a tuple, as in the Rust.
 fn reduced_indices(k: i64) -> (i64, usize, usize)
     ensures value { result ≡ reduced_indices k }
     ensures i2_bound { result.1 < 64 }
@@ -298,7 +298,7 @@ fn erfc_asympt_accurate<A: Arithmetic>(
     }
 }
 
-// A tail argument with a fast step.
+// A tail argument with a fast step. Rows and multiples are `Within` their bounds over an arithmetic with the meaning alone; the record is also made over others, so its type can't say it.
 fn erfc_fast_tail<A: Arithmetic>(arith: &mut A, argument: TailArgument<FAST_END>) -> Answer
     ensures value { (arith.new, result) ≡ with_fast_step A.Arithmetic.ops arith.old (from_bits binary64 argument.bits) }
     ensures within { Within result }

@@ -31,6 +31,7 @@ fn times_power(x: f64, n: i32) -> f64
     x * power_of_two(i64::from(n))
 }
 
+// Down to -1022. Not one function with the next, as in the Rust: their tests run in opposite directions, and would be closures longer than the branches.
 fn scaled_down(d: f64, i: i32) -> f64
     requires { i <ℤ negsuc 1021 }
     ensures { result ≡ scaled_down d i }
@@ -53,6 +54,7 @@ fn scaled_down(d: f64, i: i32) -> f64
     times_power(x, n)
 }
 
+// Up to 1023.
 fn scaled_up(d: f64, i: i32) -> f64
     requires { pos 1023 <ℤ i }
     ensures { result ≡ scaled_up d i }
