@@ -20,6 +20,7 @@ fn dekker_product(a: f64, b: f64) -> DoubleDouble
 }
 
 // a * b as a pair, exact where it is zero or at least 2^-900 in size.
+#[tactic(auto, using(crate::specs::PlainMeaning::plain_exact))]
 pub fn from_exact_mult(a: f64, b: f64) -> DoubleDouble
     ensures value { result ≡ plain_product a b }
     ensures exact { Operand a → Operand b → Settled a b → fine (val result.hi +ℤ val result.lo) ≡ val a *ℤ val b }
