@@ -52,9 +52,14 @@ module _ {S : Type 0} (o : Ops S) (m : Meaning o) where
       (sym (square_is s s' u v x tail_end a (lit≤ tt) p e ∙ ap (λ (z : Float). neg (mul binary64 z z)) a.is))
       (accurate_multiple_lem a.bits a.first a.below)
 
-  pub reciprocal_high : (s s' : S) (y : DoubleDouble) (x : Float) → (s', y) ≡ reciprocal o s x → y.hi ≡ div binary64 one x
+module _ {S : Type 0} (o : Ops S) (s s' : S) (y : DoubleDouble) (x : Float) (r : ℕ) where
+  pub fast_row_of : Argument x fast_end → (s', y) ≡ reciprocal o s x → r ≡ fast_row y.hi → r < 6
   unfolding reciprocal
-  reciprocal_high s s' y x p = ap (λ w. w.1.hi) p
+  fast_row_of a p = fast_row_within x fast_end a (lit≤ tt) y.hi r (ap (λ w. w.1.hi) p)
 
-pub argument : (bits end : ℕ) {x : Float} → tail_first ≤ bits → bits < end → x ≡ of_bits binary64 bits → Argument x end
-argument bits end p q e = record { bits = bits; is = e; first = p; below = q }
+  pub accurate_row_of : Argument x tail_end → (s', y) ≡ reciprocal o s x → r ≡ accurate_row y.hi → r < 7
+  unfolding reciprocal
+  accurate_row_of a p = accurate_row_within x tail_end a (lit≤ tt) y.hi r (ap (λ w. w.1.hi) p)
+
+pub argument : (bits : ℕ) {end : ℕ} {x : Float} → tail_first ≤ bits → bits < end → x ≡ of_bits binary64 bits → Argument x end
+argument bits p q e = record { bits = bits; is = e; first = p; below = q }
