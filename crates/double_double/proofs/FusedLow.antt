@@ -4,16 +4,15 @@ use mathlib.Core.Bool.{beq}
 use native.Mathlib.Nat.{eq_of_mul-eq-mul_right}
 use lib.IntN.{+ℤ_idr, zero-*ℤ}
 use lib.Ieee.{Float, nan, inf, fin, binary64, fits, up, down, unlike, round, sum, add, mul, neg, le, of_bits}
-use lib.Ieee.Bits.{of_bits-fits, is_true}
+use lib.Ieee.Bits.{of_bits-fits}
 use lib.Ieee.Fits.{and_l, and_r, down_pos, add-fits, mul-fits}
 use lib.Ieee.Scale.{finite, round_same}
-use borrow.Author.Differences.{abs_is}
 use Rattle.std.specs.Float.{float_mul_add}
 use Rattle.ieee.specs.Val.{val, signed, rnd, rz}
 use Rattle.ieee.specs.Pairs.{Good}
 use Rattle.ieee.specs.Meaning.{Number, Operand, fine}
 use Rattle.ieee.proofs.Ints.{zs, neg_mul}
-use Rattle.ieee.proofs.Whole.{order, rounds, exact}
+use Rattle.ieee.proofs.Whole.{rounds, exact}
 use Rattle.ieee.proofs.Bridge.{mag, mag_is, sum_like, sum_level, abs_signed, val_neg, val_repr}
 use Rattle.ieee.proofs.Fractions.{product}
 use Rattle.ieee.proofs.Product.{cancel}
@@ -21,15 +20,15 @@ use Rattle.ieee.proofs.Tools.{abs_neg}
 use Rattle.ieee.proofs.Floats.{good_add}
 use Rattle.ieee.proofs.Products.{good_times}
 use Rattle.ieee.proofs.Highs.{good_operand}
-use Rattle.ieee.proofs.Compare.{Upto, le_out, size_val, size_fits, size_finite}
-use Rattle.ieee.proofs.Thresholds.{rq_abs, rnd_at_most}
+use Rattle.ieee.proofs.Compare.{le_out, size_val, size_fits, size_finite}
+use Rattle.ieee.proofs.Thresholds.{rq_abs}
 use Rattle.ieee.proofs.FusedPairs.{left_is, good_neg}
 use Rattle.ieee.proofs.Unique.{unique}
 use Rattle.double_double.specs.Domain.{Domain}
 use Rattle.double_double.specs.Plain.{plain_product, plain_multiply_add}
-use Rattle.double_double.specs.Fused.{size, zero, ample, bounded, fused_domain, low_is_exact, fused_multiply_add}
+use Rattle.double_double.specs.Fused.{size, zero, ample, bounded, low_is_exact, fused_multiply_add}
 use Rattle.double_double.specs.PlainMeaning.{plain_times, plain_exact}
-use Rattle.double_double.specs.FusedDomain.{bounded_out}
+use Rattle.double_double.specs.FusedDomain.{bounded_out, upto_out, past, none}
 use Rattle.double_double.specs.FusedMeaning.{in_domain, fused_exact}
 use Rattle.double_double.specs.FusedSteps.{fused_paired}
 
@@ -91,15 +90,8 @@ fused_none (fin s m e) (fin t n d) (fin u k g) p q r z h =
     ∙ round_none (down e * down d * down g) (mul-pos (mul-pos (down_pos e) (down_pos d)) (down_pos g))
 
 -- ---- the two low parts
--- a fraction that rounds to twice 2 ^ i is 2 ^ i at least
-reached : (n d i : ℕ) → 0 < d → 2 ^ suc i ≤ rnd n d → 2 ^ i * d ≤ n
-reached n d i D h = elim (order (2 ^ i * d) n) [ inl l ↦ l | inr g ↦ absurd (let m = rnd_at_most n d i D (omega arith) in let P = pow_pos i in omega arith) ]
-
 same_rest : (h x y : ℤ) → h +ℤ x ≡ h +ℤ y → x ≡ y
 same_rest h x y e = omega zs
-
-none : (z : ℤ) → nat_abs z ≡ 0 → z ≡ pos 0
-none z e = omega (zs, abs_is z)
 
 good_number : (x : Float) (j : ℕ) → Good x j → Number x
 good_number x j g = record { holds = g.holds; number = g.number }
@@ -125,7 +117,7 @@ module _ (a b : Float) (p : Operand a) (q : Operand b) (r : Operand (mul binary6
   large : 2 ^ 1248 ≤ nat_abs (val a *ℤ val b)
   large =
       let e : nat_abs (val hi) ≡ rnd (nat_abs (val a *ℤ val b)) (2 ^ 1074) = ap nat_abs (good_times a b 1474 1474 1874 (good_operand a p) (good_operand b q) refl (lit< tt)).1 ∙ rq_abs (val a *ℤ val b) (2 ^ 1074) in
-      reached (nat_abs (val a *ℤ val b)) (2 ^ 1074) 174 (pow_pos 1074) (le_trans h (le_of_eq e))
+      past (nat_abs (val a *ℤ val b)) (2 ^ 1074) 174 (pow_pos 1074) (lt_of_lt_of_le (lit< tt) (le_trans h (le_of_eq e)))
 
   negated : Good (neg hi) 1474
   negated = good_neg hi 1474 (good_operand hi r)
@@ -158,7 +150,7 @@ module _ (a b : Float) (p : Operand a) (q : Operand b) (r : Operand (mul binary6
   -- in the domain it rounds once
   once_none : val once ≡ pos 0 → once ≡ zero
   once_none z =
-      ap (λ (t : Bool). cond t (float_mul_add binary64 a b (neg hi)) (plain_multiply_add a b (neg hi))) (is_true (fused_domain a b (neg hi)) (in_domain a b (neg hi) domain))
+      ap (λ (t : Bool). cond t (float_mul_add binary64 a b (neg hi)) (plain_multiply_add a b (neg hi))) (in_domain a b (neg hi) domain)
       ∙ fused_none a b (neg hi) (good_number a 1474 (good_operand a p)) (good_number b 1474 (good_operand b q)) (good_number (neg hi) 1474 negated)
       (sym (left_is (val a *ℤ val b) (val hi) (val (neg hi)) (val once) (2 ^ 1074) (val_neg hi) once_exact) ∙ ap fine z ∙ zero-*ℤ (pos (2 ^ 1074)))
       (lt_of_lt_of_le (pow_pos 1248) large)
@@ -176,9 +168,6 @@ module _ (a b : Float) (p : Operand a) (q : Operand b) (r : Operand (mul binary6
 ample_is : T (finite ample) × (val ample ≡ pos (2 ^ 175))
 unfolding of_bits
 ample_is = (tt, refl)
-
-upto_out : (x y : ℤ) (m n : ℕ) → x ≡ pos m → y ≡ pos n → Upto x y → m ≤ n
-upto_out x y m n e f h = omega zs
 
 pub low_by_test : (a b : Float) → T (fits binary64 a) → T (fits binary64 b) → T (low_is_exact a b (mul binary64 a b)) → add binary64 (plain_product a b).lo zero ≡ fused_multiply_add a b (neg (mul binary64 a b))
 low_by_test a b f g t =

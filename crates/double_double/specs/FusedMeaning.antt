@@ -1,10 +1,11 @@
 -- Fused arithmetic has the meaning; its multiply-add is IEEE 754's fusedMultiplyAdd in its domain, and its product pair is exact for products that are zero
 -- or at least 2 ^ -900 in size. Assumes nothing.
-use Rattle.std.specs.Prelude.{◌≡◌, ◌^◌, ◌≤◌, ◌||◌, T, ◌⊎◌, ℤ, pos, ◌+ℤ◌, ◌*ℤ◌, unsigned_abs, Float}
+use Rattle.std.specs.Prelude.{◌≡◌, ◌^◌, ◌≤◌, ◌||◌, true, T, ◌⊎◌, ℤ, pos, ◌+ℤ◌, ◌*ℤ◌, unsigned_abs, Float}
 use Rattle.std.proofs.Common.{ap, ◌∙◌, inl, inr, lit<, lit≤}
 use Rattle.std.proofs.Math.IntN.{zero-*ℤ}
 use Rattle.std.specs.Float.{binary64}
 use Rattle.std.specs.Float.Ieee.{fits, eq, le}
+use Rattle.std.specs.Float.Ieee.Bits.{is_true}
 use Rattle.ieee.specs.Val.{val}
 use Rattle.ieee.specs.Meaning.{Operand, Settled, fine}
 use Rattle.ieee.proofs.Ints.{mcomm}
@@ -20,9 +21,9 @@ use Rattle.double_double.specs.FusedDomain.{parts_out, parts_in, bounded_out, bo
 use Rattle.double_double.specs.FusedSteps.{fused_madd, fused_paired, fused_pairs, fused_number}
 
 -- the test of the code is the domain
-pub in_domain : (a b c : Float) → Domain a b c → T (fused_domain a b c)
+pub in_domain : (a b c : Float) → Domain a b c → fused_domain a b c ≡ true
 unfolding fused_domain
-in_domain a b c d = parts_in (bounded a) (bounded b) (bounded c) (eq a zero || eq b zero || reaches a b) (eq c zero || le least (size c)) (bounded_in a d.first) (bounded_in b d.second) (bounded_in c d.third) (product d.product) (addend d.addend)
+in_domain a b c d = is_true _ (parts_in (bounded a) (bounded b) (bounded c) _ _ (bounded_in a d.first) (bounded_in b d.second) (bounded_in c d.third) (product d.product) (addend d.addend))
   where
     product : (val a *ℤ val b ≡ pos 0) ⊎ (2 ^ 1188 ≤ unsigned_abs (val a *ℤ val b)) → T (eq a zero || eq b zero || reaches a b)
     product (inl e) = elim (zero_factor (val a) (val b) e) [

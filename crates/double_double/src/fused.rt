@@ -41,6 +41,7 @@ fn product_reaches(a: f64, b: f64) -> bool
 }
 
 // Where the multiply-add rounds once.
+#[tactic(auto, unfolding(crate::specs::Fused::fused_domain))]
 fn in_fused_domain(a: f64, b: f64, c: f64) -> bool
     ensures { result ≡ fused_domain a b c }
 {
@@ -63,6 +64,7 @@ fn multiply_add(a: f64, b: f64, c: f64) -> f64
 }
 
 // a * b + c: IEEE 754's fusedMultiplyAdd in the domain.
+#[tactic(auto, using(crate::specs::FusedMeaning::in_domain, crate::specs::FusedMeaning::domain_in))]
 pub fn f_fmla(a: f64, b: f64, c: f64) -> f64
     ensures value { result ≡ fused_multiply_add a b c }
     ensures inside { Domain a b c → result ≡ float_mul_add binary64 a b c }
@@ -83,6 +85,7 @@ fn low_part_is_exact(a: f64, b: f64, hi: f64) -> bool
 }
 
 // a * b with the low part of the multiply-add.
+#[tactic(auto, using(crate::proofs::FusedLow::low_by_test))]
 fn fused_product(a: f64, b: f64) -> DoubleDouble
     ensures { result ≡ fused_product a b }
 {

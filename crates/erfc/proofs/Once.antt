@@ -1,12 +1,13 @@
 -- d times 2 ^ i, rounded once wherever the first product of a step down does not round. Assumes nothing.
-use Rattle.std.proofs.Common.{◌≡◌, ℕ, zero, suc, ◌+◌, ◌-◌, ◌*◌, ◌%◌, ◌^◌, ◌<◌, ◌≤◌, Bool, true, false, cond, ◌&&◌, T, eqb, ltb, leb, ℤ, pos, negsuc, nat_abs, sym, refl, ap, ◌∙◌, subst, inl, inr, le_of_lt, mul_assoc, mul-le-mul_left, mul-lt-mul_of_pos_right, mul-pos, zero-mul, mul-one, arith, ltb→lt, pow_pos, pow_mono, pow-add, le-ltb, lt-ltb}
+use Rattle.std.proofs.Common.{◌≡◌, ℕ, suc, ◌+◌, ◌-◌, ◌*◌, ◌^◌, ◌<◌, ◌≤◌, Bool, true, false, cond, T, ℤ, pos, negsuc, nat_abs, sym, refl, ap, ◌∙◌, subst, inl, inr, le_of_lt, mul_assoc, mul-le-mul_left, mul-lt-mul_of_pos_right, mul-pos, mul-one, arith, pow_pos, pow_mono, pow-add, le-ltb, lt-ltb}
 use lib.Signed.{lt_z}
 use lib.Ieee.{Float, fin, binary64, fits, up, down, mul, round}
-use lib.Ieee.Fits.{and_r, down_pos}
+use lib.Ieee.Fits.{down_pos}
 use lib.Ieee.Exact.{HasValue}
 use Rattle.ieee.specs.Val.{val, Mult}
 use Rattle.ieee.proofs.Ints.{abs_mul, cancel_lt}
 use Rattle.ieee.proofs.Bridge.{mag, mag_is, abs_signed}
+use Rattle.ieee.proofs.Middle.{val_under}
 use Rattle.ieee.proofs.Whole.{order}
 use Rattle.erfc.specs.Scaling.{power, scaled_down, scaled_up, ldexp_of}
 use Rattle.erfc.proofs.Rounded.{rounded, rounded_is, times}
@@ -14,20 +15,8 @@ use Rattle.erfc.proofs.Powers.{power_up, power_down}
 use Rattle.erfc.proofs.Ups.{scaled_up_lem}
 use Rattle.erfc.proofs.Downs.{scaled_down_lem}
 
--- ---- the size of d in units: below 2 ^ 2098, and what is left of it after a step down
-below : (a u d l r : ℕ) → a * d ≡ u * l → u < r * d → 0 < l → a < l * r
-below a u d l r e h L = cancel_lt d a (l * r) (omega (arith, mul-lt-mul_of_pos_right h L))
-
-fits_below : (s : Bool) (m : ℕ) (e : ℤ) → T (fits binary64 (fin s m e)) → m * up e < 2 ^ 1024 * down e
-unfolding fits
-fits_below s zero e t = subst (λ (z : ℕ). z < 2 ^ 1024 * down e) (sym (zero-mul (up e))) (mul-pos (pow_pos 1024) (down_pos e))
-fits_below s (suc m) e t = ltb→lt (suc m * up e) (2 ^ 1024 * down e) (and_r (eqb (suc m % 2) 1 && ltb (suc m) (2 ^ 53) && leb (down e) (2 ^ 1074)) (ltb (suc m * up e) (2 ^ 1024 * down e)) t)
-
-pub mag_under : (s : Bool) (m : ℕ) (e : ℤ) → T (fits binary64 (fin s m e)) → mag m e < 2 ^ 2098
-mag_under s m e f = below (mag m e) (m * up e) (down e) (2 ^ 1074) (2 ^ 1024) (mag_is s m e f).3 (fits_below s m e f) (pow_pos 1074)
-
 -- a multiple of 2 ^ 970 of 53 digits is 2 ^ 970 times a number of 53 digits
-pub divided : (n m j c : ℕ) → m < 2 ^ 53 → n ≡ m * 2 ^ j → n ≡ c * 2 ^ 970 → (q : ℕ) × (k : ℕ) × (q < 2 ^ 53) × (n ≡ q * 2 ^ k * 2 ^ 970)
+divided : (n m j c : ℕ) → m < 2 ^ 53 → n ≡ m * 2 ^ j → n ≡ c * 2 ^ 970 → (q : ℕ) × (k : ℕ) × (q < 2 ^ 53) × (n ≡ q * 2 ^ k * 2 ^ 970)
 divided n m j c small e g = elim (order 970 j) [
   | inl h ↦ (
     m,
@@ -75,7 +64,7 @@ module _ (s : Bool) (m : ℕ) (e : ℤ) (f : T (fits binary64 (fin s m e))) wher
       let w = mag_is s m e f in
       let c : mag m e ≡ nat_abs g.0 * 2 ^ 970 = sym (abs_signed s (mag m e)) ∙ ap nat_abs g.1 ∙ abs_mul g.0 (pos (2 ^ 970)) in
       let p = divided (mag m e) m w.0 (nat_abs g.0) w.1 w.2 c in
-      scaled_down_lem d s p.0 p.1 p.2 (subst (λ (z : ℕ). z < 2 ^ 2098) p.3 (mag_under s m e f)) (subst (λ (z : ℕ). HasValue d s z (2 ^ 1074)) p.3 value) i h
+      scaled_down_lem d s p.0 p.1 p.2 (subst (λ (z : ℕ). z < 2 ^ 2098) (abs_signed s (mag m e) ∙ p.3) (val_under d f)) (subst (λ (z : ℕ). HasValue d s z (2 ^ 1074)) p.3 value) i h
       ∙ ap (λ (z : ℕ). rounded s z (2 ^ suc i)) (sym (mul-one (mag m e) ∙ p.3))
       ∙ sym (goal_is (negsuc i))
 

@@ -32,7 +32,7 @@ tail_operand b p q =
     }
 
 -- the first argument of the tail, and the last ones of the two steps
-abbrev first : Float
+abbrev pub first : Float
 first = of_bits binary64 0x400713786d9c7c0a
 
 abbrev last_fast : Float
@@ -76,17 +76,10 @@ accurate_multiple_lem b p q =
     (bits_order 0x400713786d9c7c0a b (lit≤ tt) p (omega arith)) (bits_order b 0x403b39dc41e48bfc (omega arith) (omega arith) (lit< tt))
     tt tt tt tt (lit< tt) (lit≤ tt) (lit≤ tt)
 
--- 1/x passes neither the last threshold of the fast rows nor that of accurate row 6
-pub fast_threshold : (b : ℕ) → 0x400713786d9c7c0a ≤ b → b < 0x403b39dc41e48bfd →
-    lt (of_bits binary64 0x3fd6300000000000) (div binary64 (of_bits binary64 0x3ff0000000000000) (of_bits binary64 b)) ≡ false
+-- 1/x passes no threshold that 1/first does not pass
+pub not_passed : (t : Float) → T (positive t) → T (le (div binary64 (of_bits binary64 0x3ff0000000000000) first) t) → (b : ℕ) → 0x400713786d9c7c0a ≤ b → b < 0x403b39dc41e48bfd →
+    lt t (div binary64 (of_bits binary64 0x3ff0000000000000) (of_bits binary64 b)) ≡ false
 unfolding of_bits div le
-fast_threshold b p q =
-    quotient_within binary64 (of_bits binary64 0x3ff0000000000000) first (of_bits binary64 b) last (of_bits binary64 0x3fd6300000000000) tt tt (bits_positive b (omega arith) (omega arith)) tt tt
-    (bits_order 0x400713786d9c7c0a b (lit≤ tt) p (omega arith)) (bits_order b 0x403b39dc41e48bfc (omega arith) (omega arith) (lit< tt)) tt tt tt
-
-pub accurate_threshold : (b : ℕ) → 0x400713786d9c7c0a ≤ b → b < 0x403b39dc41e48bfd →
-    lt (of_bits binary64 0x3fd7100000000000) (div binary64 (of_bits binary64 0x3ff0000000000000) (of_bits binary64 b)) ≡ false
-unfolding of_bits div le
-accurate_threshold b p q =
-    quotient_within binary64 (of_bits binary64 0x3ff0000000000000) first (of_bits binary64 b) last (of_bits binary64 0x3fd7100000000000) tt tt (bits_positive b (omega arith) (omega arith)) tt tt
-    (bits_order 0x400713786d9c7c0a b (lit≤ tt) p (omega arith)) (bits_order b 0x403b39dc41e48bfc (omega arith) (omega arith) (lit< tt)) tt tt tt
+not_passed t u v b p q =
+    quotient_within binary64 (of_bits binary64 0x3ff0000000000000) first (of_bits binary64 b) last t tt tt (bits_positive b (omega arith) (omega arith)) tt u
+    (bits_order 0x400713786d9c7c0a b (lit≤ tt) p (omega arith)) (bits_order b 0x403b39dc41e48bfc (omega arith) (omega arith) (lit< tt)) tt tt v

@@ -1,6 +1,6 @@
 -- A tail argument in every arithmetic with the meaning: its multiples of log 2 and its rows. Assumes nothing.
-use Rattle.std.proofs.Common.{◌≡◌, ℕ, ◌<◌, ◌≤◌, T, sym, ap, ◌∙◌, subst, lt_of_lt_of_le, lt_of_le_of_lt, lit<, lit≤}
-use lib.Ieee.{Float, binary64, of_bits, mul, div, neg, lt}
+use Rattle.std.proofs.Common.{◌≡◌, ℕ, suc, List, length, get_or, arith, ◌<◌, ◌≤◌, T, sym, ap, ◌∙◌, subst, lt_of_lt_of_le, lt_of_le_of_lt, lit<, lit≤}
+use lib.Ieee.{Float, binary64, of_bits, mul, div, neg, le, lt}
 use lib.Ieee.Positive.{positive}
 use Rattle.ieee.specs.Whole.{Whole}
 use Rattle.ieee.specs.Meaning.{Operand}
@@ -9,9 +9,9 @@ use Rattle.double_double.specs.declared.double_double.DoubleDouble.{DoubleDouble
 use Rattle.double_double.specs.Ops.{Ops, Meaning}
 use Rattle.double_double.specs.Pairs.{negated}
 use Rattle.erfc.specs.Exponentials.{multiple, accurate_multiple}
-use Rattle.erfc.specs.Rows.{Argument, tail_first, fast_thresholds, accurate_thresholds, fast_row, accurate_row, fast_end, tail_end}
+use Rattle.erfc.specs.Rows.{Argument, tail_first, first_not_below, fast_thresholds, accurate_thresholds, fast_row, accurate_row, fast_end, tail_end}
 use Rattle.erfc.specs.Asymptotics.{one, reciprocal}
-use Rattle.erfc.proofs.Ranges.{tail_operand, square_positive, fast_multiple, accurate_multiple_lem, fast_threshold, accurate_threshold}
+use Rattle.erfc.proofs.Ranges.{tail_operand, square_positive, fast_multiple, accurate_multiple_lem, first, not_passed}
 use Rattle.erfc.proofs.Search.{row_within}
 
 module _ (x : Float) (end : ℕ) (a : Argument x end) (q : end ≤ tail_end) where
@@ -21,16 +21,20 @@ module _ (x : Float) (end : ℕ) (a : Argument x end) (q : end ≤ tail_end) whe
   pub operand : Operand x
   operand = subst Operand (sym a.is) (tail_operand a.bits a.first under)
 
-  -- no tail argument passes the last threshold of the fast rows, nor that of accurate row 6
+  -- no tail argument passes threshold i, where the first one does not
+  row_at : (ts : List ℕ) (i : ℕ) → i < length ts → T (positive (of_bits binary64 (get_or ts i 0))) → T (le (div binary64 one first) (of_bits binary64 (get_or ts i 0))) →
+      (y : Float) (r : ℕ) → y ≡ div binary64 one x → r ≡ first_not_below ts y → r < suc i
+  row_at ts i h u v y r e f =
+      let t = ap (λ (z : Float). lt (of_bits binary64 (get_or ts i 0)) z) (e ∙ ap (div binary64 one) a.is) ∙ not_passed (of_bits binary64 (get_or ts i 0)) u v a.bits a.first under in
+      subst (λ (n : ℕ). n < suc i) (sym f) (lt_of_le_of_lt (row_within ts y i h t) (omega arith))
+
   pub fast_row_within : (y : Float) (r : ℕ) → y ≡ div binary64 one x → r ≡ fast_row y → r < 6
-  fast_row_within y r e f =
-      let t = ap (λ (z : Float). lt (of_bits binary64 0x3fd6300000000000) z) (e ∙ ap (div binary64 one) a.is) ∙ fast_threshold a.bits a.first under in
-      subst (λ (n : ℕ). n < 6) (sym f) (lt_of_le_of_lt (row_within fast_thresholds y 5 (lit< tt) t) (lit< tt))
+  unfolding of_bits div le
+  fast_row_within = row_at fast_thresholds 5 (lit< tt) tt tt
 
   pub accurate_row_within : (y : Float) (r : ℕ) → y ≡ div binary64 one x → r ≡ accurate_row y → r < 7
-  accurate_row_within y r e f =
-      let t = ap (λ (z : Float). lt (of_bits binary64 0x3fd7100000000000) z) (e ∙ ap (div binary64 one) a.is) ∙ accurate_threshold a.bits a.first under in
-      subst (λ (n : ℕ). n < 7) (sym f) (lt_of_le_of_lt (row_within accurate_thresholds y 6 (lit< tt) t) (lit< tt))
+  unfolding of_bits div le
+  accurate_row_within = row_at accurate_thresholds 6 (lit< tt) tt tt
 
 module _ {S : Type 0} (o : Ops S) (m : Meaning o) where
   -- the negated square that the exponentials are given: hi is the rounded square itself, since that is not zero
@@ -52,9 +56,14 @@ module _ {S : Type 0} (o : Ops S) (m : Meaning o) where
       (sym (square_is s s' u v x tail_end a (lit≤ tt) p e ∙ ap (λ (z : Float). neg (mul binary64 z z)) a.is))
       (accurate_multiple_lem a.bits a.first a.below)
 
-  pub reciprocal_high : (s s' : S) (y : DoubleDouble) (x : Float) → (s', y) ≡ reciprocal o s x → y.hi ≡ div binary64 one x
+module _ {S : Type 0} (o : Ops S) (s s' : S) (y : DoubleDouble) (x : Float) (r : ℕ) where
+  pub fast_row_of : Argument x fast_end → (s', y) ≡ reciprocal o s x → r ≡ fast_row y.hi → r < 6
   unfolding reciprocal
-  reciprocal_high s s' y x p = ap (λ w. w.1.hi) p
+  fast_row_of a p = fast_row_within x fast_end a (lit≤ tt) y.hi r (ap (λ w. w.1.hi) p)
 
-pub argument : (bits end : ℕ) {x : Float} → tail_first ≤ bits → bits < end → x ≡ of_bits binary64 bits → Argument x end
-argument bits end p q e = record { bits = bits; is = e; first = p; below = q }
+  pub accurate_row_of : Argument x tail_end → (s', y) ≡ reciprocal o s x → r ≡ accurate_row y.hi → r < 7
+  unfolding reciprocal
+  accurate_row_of a p = accurate_row_within x tail_end a (lit≤ tt) y.hi r (ap (λ w. w.1.hi) p)
+
+pub argument : (bits : ℕ) {end : ℕ} {x : Float} → tail_first ≤ bits → bits < end → x ≡ of_bits binary64 bits → Argument x end
+argument bits p q e = record { bits = bits; is = e; first = p; below = q }

@@ -143,6 +143,7 @@ pub struct Exp {
 }
 
 // exp(x), for x whose multiple of log(2) lies in the tail's range.
+#[tactic(auto, using(crate::proofs::Casts::back_32), unfolding(crate::specs::Exponentials::exp_accurate))]
 fn exp_accurate<A: Arithmetic>(arith: &mut A, x_dd: DoubleDouble) -> Exp
     requires { Whole (accurate_multiple x_dd.hi) 12 1070 }
     ensures e { result.e ≡ accurate_multiple_int x_dd.hi }
@@ -215,6 +216,7 @@ fn fast_error(hi: f64) -> f64
 }
 
 // erfc(x) = exp(-x^2) * p(1/x) by the fast polynomials.
+#[tactic(auto, unfolding(crate::specs::Asymptotics::fast_step))]
 fn erfc_asympt_fast<A: Arithmetic>(arith: &mut A, argument: TailArgument<FAST_END>) -> FastPart
     ensures value { (arith.new, result) ≡ fast_step A.Arithmetic.ops arith.old (from_bits binary64 argument.bits) }
     ensures row_bound { result.row < 6 }
@@ -272,6 +274,7 @@ fn scaled_value(v: DoubleDouble, k: i32) -> f64
 }
 
 // erfc(x) by the accurate polynomials: the pair before scaling.
+#[tactic(auto, unfolding(crate::specs::Asymptotics::accurate_step))]
 fn erfc_asympt_accurate<A: Arithmetic>(
     arith: &mut A,
     argument: TailArgument<TAIL_END>,

@@ -88,6 +88,7 @@ pub(crate) fn ldexp_steps(d: f64, i: i32) -> f64
 }
 
 // d * 2^i, rounded once where the first product does not round.
+#[tactic(auto, using(crate::proofs::Scales::once))]
 pub fn ldexp(d: f64, i: i32) -> f64
     ensures value { result ≡ ldexp_of d i }
     ensures once { Number d → FirstExact d i → result ≡ times_power d i }

@@ -1,22 +1,21 @@
 use Rattle.std.proofs.Common.{◌≡◌, ℤ, pos, negsuc, ◌≤ℤ◌, sym, ◌∙◌, subst, lit≤, w64, SFits, rules}
 use Rattle.std.proofs.lemmas.Int.{to_z-of_z}
-use lib.Ieee.Casts.{to_signed_in}
 use Rattle.std.specs.Float.Ieee.{to_signed}
-use Rattle.erfc.specs.Exponentials.{exp1, multiple, floor_div}
-use Rattle.erfc.proofs.Casts.{castable, cast_is, cast_within}
+use Rattle.erfc.specs.Exponentials.{exp1, floor_div}
+use Rattle.erfc.proofs.Casts.{castable, cast_is, cast_within, back_64}
 use Rattle.erfc.proofs.Indices.{exponent_low, exponent_high}
 use Rattle.erfc.proofs.err.erfc.exp_1.Goals as goal
 
 pub float_to_int-ki : goal.float_to_int-ki
 float_to_int-ki g c =
-    let h = castable (multiple c.args.x.hi) 48999 3999999 63 c.requires (lit≤ tt) (lit≤ tt) in
+    let h = castable _ 48999 3999999 63 c.requires (lit≤ tt) (lit≤ tt) in
     search rules
 
 pub power_of_two-scale-requires : goal.power_of_two-scale-requires
 power_of_two-scale-requires g c =
-    let back = to_z-of_z w64 (to_signed 63 c.round_ties_even-k.result) (record { sfits = to_signed_in 63 c.round_ties_even-k.result }) in
+    let back = back_64 c.round_ties_even-k.result in
     let f : SFits w64 c.reduced_indices-m.result.0 = search rules in
-    let h = cast_is (multiple c.args.x.hi) 48999 3999999 63 c.requires (lit≤ tt) (lit≤ tt) in
+    let h = cast_is _ 48999 3999999 63 c.requires (lit≤ tt) (lit≤ tt) in
     let k : to_signed 63 c.round_ties_even-k.result ≡ negsuc c.requires.n = search rules in
     let m : c.reduced_indices-m.result.0 ≡ floor_div (to_signed 63 c.round_ties_even-k.result) 4096 = search rules in
     let e = to_z-of_z w64 c.reduced_indices-m.result.0 f ∙ m in
@@ -26,12 +25,12 @@ power_of_two-scale-requires g c =
 
 pub invariant_of-result : goal.invariant_of-result
 invariant_of-result g c =
-    let back = to_z-of_z w64 (to_signed 63 c.round_ties_even-k.result) (record { sfits = to_signed_in 63 c.round_ties_even-k.result }) in
-    let b = cast_within (multiple c.args.x.hi) 48999 3999999 63 c.requires (lit≤ tt) (lit≤ tt) _ (search rules) in
+    let back = back_64 c.round_ties_even-k.result in
+    let b = cast_within _ 48999 3999999 63 c.requires (lit≤ tt) (lit≤ tt) _ (search rules) in
     record { k_low = b.0; k_high = b.1 }
 
 pub returns : goal.returns
 unfolding exp1
 returns g c =
-    let back = to_z-of_z w64 (to_signed 63 c.round_ties_even-k.result) (record { sfits = to_signed_in 63 c.round_ties_even-k.result }) in
+    let back = back_64 c.round_ties_even-k.result in
     record { k = search rules; result = search rules }

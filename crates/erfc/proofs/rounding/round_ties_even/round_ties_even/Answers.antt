@@ -1,4 +1,4 @@
-use Rattle.std.proofs.Common.{◌≡◌, Bool, true, false, T, sym, refl, ap, ◌∙◌, subst, rules}
+use Rattle.std.proofs.Common.{◌≡◌, Bool, true, false, T, sym, ap, ◌∙◌, subst, rules}
 use lib.Ieee.{Float, binary64, fits, of_bits, neg, lt, eq}
 use Rattle.std.specs.Float.{round_ties_even}
 use Rattle.ieee.specs.Meaning.{Number}
@@ -11,13 +11,10 @@ use Rattle.erfc.proofs.rounding.round_ties_even.round_ties_even.Goals as goal
 holds : (b : Bool) → b ≡ true → T b
 holds b e = subst T (sym e) tt
 
--- -2 ^ 51
-low_end : neg (of_bits binary64 0x4320000000000000) ≡ of_bits binary64 0xc320000000000000
-unfolding of_bits neg
-low_end = refl
-
+-- -2 ^ 51, by its bits
 low_side : (x : Float) → lt (neg (of_bits binary64 0x4320000000000000)) x ≡ true → T (lt (of_bits binary64 0xc320000000000000) x)
-low_side x h = subst (λ (z : Float). T (lt z x)) low_end (holds _ h)
+unfolding of_bits neg
+low_side x h = holds _ h
 
 test_of : (r x : Float) (b : Bool) → r ≡ shifted x → eq r (of_bits binary64 0) ≡ b → eq (shifted x) (of_bits binary64 0) ≡ b
 test_of r x b e h = ap (λ (z : Float). eq z (of_bits binary64 0)) (sym e) ∙ h

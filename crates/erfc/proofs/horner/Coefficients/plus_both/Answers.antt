@@ -1,5 +1,0 @@
-use Rattle.std.proofs.Common.{arith}
-use Rattle.erfc.proofs.horner.Coefficients.plus_both.Goals as goal
-
-pub overflow_add-n : goal.overflow_add-n
-overflow_add-n g c = omega (arith, g.met.Self.Numbers.fits c.args.self.now)
