@@ -21,7 +21,7 @@ use Rattle.ieee.proofs.Floats.{good_add}
 use Rattle.ieee.proofs.Products.{good_times}
 use Rattle.ieee.proofs.Highs.{good_operand}
 use Rattle.ieee.proofs.Compare.{le_out, size_val, size_fits, size_finite}
-use Rattle.ieee.proofs.Thresholds.{rq_abs}
+use Rattle.ieee.proofs.Thresholds.{rq_abs, rnd_at_most}
 use Rattle.ieee.proofs.FusedPairs.{left_is, good_neg}
 use Rattle.ieee.proofs.Unique.{unique}
 use Rattle.double_double.specs.Domain.{Domain}
@@ -29,7 +29,7 @@ use Rattle.double_double.specs.Plain.{plain_product, plain_multiply_add}
 use Rattle.double_double.specs.Fused.{size, zero, ample, bounded, low_is_exact, fused_multiply_add}
 use Rattle.double_double.specs.PlainMeaning.{plain_times, plain_exact}
 use Rattle.double_double.specs.FusedDomain.{bounded_out, upto_out, past, none}
-use Rattle.double_double.specs.FusedMeaning.{in_domain, fused_exact}
+use Rattle.double_double.specs.FusedMeaning.{domain_true, fused_exact}
 use Rattle.double_double.specs.FusedSteps.{fused_paired}
 
 -- ---- sums that are zero
@@ -117,7 +117,7 @@ module _ (a b : Float) (p : Operand a) (q : Operand b) (r : Operand (mul binary6
   large : 2 ^ 1248 ≤ nat_abs (val a *ℤ val b)
   large =
       let e : nat_abs (val hi) ≡ rnd (nat_abs (val a *ℤ val b)) (2 ^ 1074) = ap nat_abs (good_times a b 1474 1474 1874 (good_operand a p) (good_operand b q) refl (lit< tt)).1 ∙ rq_abs (val a *ℤ val b) (2 ^ 1074) in
-      past (nat_abs (val a *ℤ val b)) (2 ^ 1074) 174 (pow_pos 1074) (lt_of_lt_of_le (lit< tt) (le_trans h (le_of_eq e)))
+      past (nat_abs (val a *ℤ val b)) (2 ^ 1074) (2 ^ 174) (rnd_at_most (nat_abs (val a *ℤ val b)) (2 ^ 1074) 174 (pow_pos 1074)) (lt_of_lt_of_le (lit< tt) (le_trans h (le_of_eq e)))
 
   negated : Good (neg hi) 1474
   negated = good_neg hi 1474 (good_operand hi r)
@@ -150,7 +150,7 @@ module _ (a b : Float) (p : Operand a) (q : Operand b) (r : Operand (mul binary6
   -- in the domain it rounds once
   once_none : val once ≡ pos 0 → once ≡ zero
   once_none z =
-      ap (λ (t : Bool). cond t (float_mul_add binary64 a b (neg hi)) (plain_multiply_add a b (neg hi))) (in_domain a b (neg hi) domain)
+      ap (λ (t : Bool). cond t (float_mul_add binary64 a b (neg hi)) (plain_multiply_add a b (neg hi))) (domain_true a b (neg hi) domain)
       ∙ fused_none a b (neg hi) (good_number a 1474 (good_operand a p)) (good_number b 1474 (good_operand b q)) (good_number (neg hi) 1474 negated)
       (sym (left_is (val a *ℤ val b) (val hi) (val (neg hi)) (val once) (2 ^ 1074) (val_neg hi) once_exact) ∙ ap fine z ∙ zero-*ℤ (pos (2 ^ 1074)))
       (lt_of_lt_of_le (pow_pos 1248) large)

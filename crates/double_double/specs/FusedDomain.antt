@@ -103,9 +103,13 @@ choose_second true u v g h = tt
 choose_second false true v g h = h
 choose_second false false v g h = g
 
--- a fraction that rounds above 2 ^ i is 2 ^ i at least
-pub past : (n d i : ℕ) → 0 < d → 2 ^ i < rnd n d → 2 ^ i * d ≤ n
-past n d i D h = elim (order (2 ^ i * d) n) [ inl l ↦ l | inr g ↦ absurd (let m = rnd_at_most n d i D (omega arith) in omega arith) ]
+-- plain's splitter is written by its bits
+plain_rest : (x y : Float) → (plain_product x y).lo ≡ rest x y
+unfolding of_bits
+plain_rest x y = refl
+
+pub past : (n d v : ℕ) → (n ≤ v * d → rnd n d ≤ v) → v < rnd n d → v * d ≤ n
+past n d v at h = elim (order (v * d) n) [ inl l ↦ l | inr g ↦ absurd (let m = at (omega arith) in omega arith) ]
 
 module _ (a b : Float) (p : Operand a) (q : Operand b) where
   abbrev s : Float
@@ -136,21 +140,18 @@ module _ (a b : Float) (p : Operand a) (q : Operand b) where
   what_is_lost e = lost_sign (size a) (size b) lift (unsigned_abs (val a)) (unsigned_abs (val b)) (sized a p) (sized b q)
       (record { holds = of_bits-fits binary64 _; number = lift_is.0; small = le_of_eq (ap unsigned_abs lift_is.1) }) lift_is.1 (size_val a) (size_val b) e
 
-  -- plain's splitter is written by its bits
   lost_finite : rnd n (2 ^ 1074) ≡ 2 ^ 114 → T (finite lost)
-  unfolding of_bits
-  lost_finite e = (what_is_lost e).number
+  lost_finite e = subst (λ (x : Float). T (finite x)) (sym (plain_rest (mul binary64 (size a) lift) (mul binary64 (size b) lift))) (what_is_lost e).number
 
   lost_is : Upto (val zero) (val lost) ≡ Upto (pos 0) (val (rest (mul binary64 (size a) lift) (mul binary64 (size b) lift)))
-  unfolding of_bits
-  lost_is = refl
+  lost_is = (λ i. Upto (zero_is.1 i) (val (plain_rest (mul binary64 (size a) lift) (mul binary64 (size b) lift) i)))
 
   pub reaches_out : T (reaches a b) → 2 ^ 1188 ≤ unsigned_abs (val a *ℤ val b)
   reaches_out t = le_trans reached (le_of_eq (sym (abs_mul (val a) (val b))))
     where
       reached : 2 ^ 1188 ≤ n
       reached = elim (chosen (lt least s) (eq least s) (le zero lost) t) [
-        | inl l ↦ past n (2 ^ 1074) 114 (pow_pos 1074) (below_out (val least) (val s) (2 ^ 114) (rnd n (2 ^ 1074)) least_is.1 s_is (lt_out least s (of_bits-fits binary64 _) s_fits least_is.0 s_finite l))
+        | inl l ↦ past n (2 ^ 1074) (2 ^ 114) (rnd_at_most n (2 ^ 1074) 114 (pow_pos 1074)) (below_out (val least) (val s) (2 ^ 114) (rnd n (2 ^ 1074)) least_is.1 s_is (lt_out least s (of_bits-fits binary64 _) s_fits least_is.0 s_finite l))
         | inr (u, v) ↦
             let e : rnd n (2 ^ 1074) ≡ 2 ^ 114 = ap unsigned_abs (sym s_is ∙ sym (eq_out least s (of_bits-fits binary64 _) s_fits least_is.0 s_finite u) ∙ least_is.1) in
             (what_is_lost e).out (subst (λ (A : Type 0). A) lost_is (le_out zero lost (of_bits-fits binary64 0) (add-fits binary64 _ _) zero_is.0 (lost_finite e) v))

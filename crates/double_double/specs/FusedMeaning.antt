@@ -21,9 +21,9 @@ use Rattle.double_double.specs.FusedDomain.{parts_out, parts_in, bounded_out, bo
 use Rattle.double_double.specs.FusedSteps.{fused_madd, fused_paired, fused_pairs, fused_number}
 
 -- the test of the code is the domain
-pub in_domain : (a b c : Float) → Domain a b c → fused_domain a b c ≡ true
+pub in_domain : (a b c : Float) → Domain a b c → T (fused_domain a b c)
 unfolding fused_domain
-in_domain a b c d = is_true _ (parts_in (bounded a) (bounded b) (bounded c) _ _ (bounded_in a d.first) (bounded_in b d.second) (bounded_in c d.third) (product d.product) (addend d.addend))
+in_domain a b c d = parts_in (bounded a) (bounded b) (bounded c) _ _ (bounded_in a d.first) (bounded_in b d.second) (bounded_in c d.third) (product d.product) (addend d.addend)
   where
     product : (val a *ℤ val b ≡ pos 0) ⊎ (2 ^ 1188 ≤ unsigned_abs (val a *ℤ val b)) → T (eq a zero || eq b zero || reaches a b)
     product (inl e) = elim (zero_factor (val a) (val b) e) [
@@ -35,6 +35,9 @@ in_domain a b c d = is_true _ (parts_in (bounded a) (bounded b) (bounded c) _ _ 
     addend : (val c ≡ pos 0) ⊎ (2 ^ 114 ≤ unsigned_abs (val c)) → T (eq c zero || le least (size c))
     addend (inl e) = or_l (eq c zero) (le least (size c)) (zero_in c d.third e)
     addend (inr h) = or_r (eq c zero) (le least (size c)) (least_in c d.third h)
+
+pub domain_true : (a b c : Float) → Domain a b c → fused_domain a b c ≡ true
+domain_true a b c d = is_true _ (in_domain a b c d)
 
 pub domain_in : (a b c : Float) → T (fits binary64 a) → T (fits binary64 b) → T (fits binary64 c) → T (fused_domain a b c) → Domain a b c
 unfolding fused_domain

@@ -24,14 +24,18 @@ fused_madd a b c j p q r least most =
     either_way (λ x. Madd a b c x j) (fused_domain a b c) (float_mul_add binary64 a b c) (plain_multiply_add a b c) (fused_sharp a b c j p q r least most) (plain_madd a b c j p q r least most)
 
 -- plain's splitter is written by its bits
-pub fused_paired : (a b : Float) → Good a 1474 → Good b 1474 → Paired a b (fused_product a b).lo (fused_product a b).hi
+plain_near : (a b : Float) → Good a 1474 → Good b 1474
+    → 2 ^ 106 * unsigned_abs (fine (val (mul binary64 a b) +ℤ val (plain_multiply_add a b (neg (mul binary64 a b)))) -ℤ val a *ℤ val b) ≤ unsigned_abs (val a *ℤ val b) + 2 ^ 107 * 2 ^ 1074
 unfolding of_bits
+plain_near a b p q = steps_near a b p q
+
+pub fused_paired : (a b : Float) → Good a 1474 → Good b 1474 → Paired a b (fused_product a b).lo (fused_product a b).hi
 fused_paired a b p q =
     let h = mul binary64 a b in
     let c = good_up (neg h) 1875 1876 (lit≤ tt) (good_neg h 1875 (good_times a b 1474 1474 1874 p q refl (lit< tt)).0) in
     paired a b (fused_multiply_add a b (neg h)) p q (fused_madd a b (neg h) 1876 p q c (lit≤ tt) (lit< tt))
     (either_way (λ x. 2 ^ 106 * unsigned_abs (fine (val h +ℤ val x) -ℤ val a *ℤ val b) ≤ unsigned_abs (val a *ℤ val b) + 2 ^ 107 * 2 ^ 1074) (fused_domain a b (neg h)) (float_mul_add binary64 a b (neg h)) (plain_multiply_add a b (neg h))
-    (once_near a b p q) (steps_near a b p q))
+    (once_near a b p q) (plain_near a b p q))
 
 pub fused_pairs : (al ah bl bh : Float) → Good al 1474 → Good ah 1474 → Good bl 1474 → Good bh 1474
     → PairsMean al ah bl bh (fused_pair_times_pair (record { lo = al; hi = ah }) (record { lo = bl; hi = bh })).lo (fused_pair_times_pair (record { lo = al; hi = ah }) (record { lo = bl; hi = bh })).hi

@@ -64,7 +64,7 @@ fn multiply_add(a: f64, b: f64, c: f64) -> f64
 }
 
 // a * b + c: IEEE 754's fusedMultiplyAdd in the domain.
-#[tactic(auto, using(crate::specs::FusedMeaning::in_domain, crate::specs::FusedMeaning::domain_in))]
+#[tactic(auto, using(crate::specs::FusedMeaning::domain_true, crate::specs::FusedMeaning::domain_in))]
 pub fn f_fmla(a: f64, b: f64, c: f64) -> f64
     ensures value { result ≡ fused_multiply_add a b c }
     ensures inside { Domain a b c → result ≡ float_mul_add binary64 a b c }
