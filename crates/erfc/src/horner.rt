@@ -22,6 +22,7 @@ pub trait Terms {
 }
 
 // Turns with coefficients turns - 1 down to 0, from z on.
+#[tactic(auto, using(crate::proofs::Turns::done))]
 pub fn evaluate<A: Arithmetic, T: Terms>(
     arith: &mut A,
     terms: &T,

@@ -1,6 +1,6 @@
 -- The digits of a number, one by one. Assumes nothing.
 use Rattle.std.proofs.Common.{◌≡◌, ℕ, ◌+◌, ◌*◌, ◌^◌, ◌<◌, ◌≤◌, List, length, get_or, drop, Some, None, Option, ap, ◌∙◌, arith, pow_mono, pow-add}
-use Rattle.std.proofs.lemmas.List.{at_drop_more, at_drop_all}
+use Rattle.std.proofs.lemmas.List.{at_drop_more}
 use Rattle.replay.specs.Lines.{digit_of, hex_from}
 
 -- i digits are below 16 ^ i
@@ -10,14 +10,7 @@ next_below v d i h k = let e : 2 ^ (4 * (i + 1)) ≡ 2 ^ (4 * i) * 16 = ap (λ (
 pub below_60 : (v i : ℕ) → v < 2 ^ (4 * i) → i < 16 → v < 2 ^ 60
 below_60 v i h k = let p : 2 ^ (4 * i) ≤ 2 ^ 60 = pow_mono {i = 4 * i} {j = 60} (omega arith) in omega (arith, p)
 
--- the digit at place i goes on, or ends it
+-- the digit at place i goes on
 pub digit_more : (bs : List ℕ) (v i d : ℕ) → i < length bs → digit_of (get_or bs i 0) ≡ Some d → hex_from v (drop i bs) ≡ hex_from (v * 16 + d) (drop (i + 1) bs)
 digit_more bs v i d h e =
     at_drop_more (hex_from v) bs i 0 h ∙ ap (λ o. elim o as (λ _. Option ℕ) [ Some x ↦ hex_from (v * 16 + x) (drop (i + 1) bs) | None ↦ None ]) e
-
-pub digit_none : (bs : List ℕ) (v i : ℕ) → i < length bs → digit_of (get_or bs i 0) ≡ None → hex_from v (drop i bs) ≡ None
-digit_none bs v i h e =
-    at_drop_more (hex_from v) bs i 0 h ∙ ap (λ o. elim o as (λ _. Option ℕ) [ Some x ↦ hex_from (v * 16 + x) (drop (i + 1) bs) | None ↦ None ]) e
-
-pub digits_all : (bs : List ℕ) (v i : ℕ) → length bs ≤ i → hex_from v (drop i bs) ≡ Some v
-digits_all bs v i h = at_drop_all (hex_from v) bs i h

@@ -1,5 +1,5 @@
 use Rattle.std.proofs.Common.{sym, ◌∙◌, arith}
-use Rattle.replay.proofs.Digits.{next_below, below_60, digit_more, digits_all}
+use Rattle.replay.proofs.Digits.{next_below, below_60, digit_more}
 use Rattle.replay.proofs.line.hex.Goals as goal
 
 pub overflow_mul-value : goal.overflow_mul-value
@@ -13,6 +13,3 @@ loop-b-preserved c = (
   next_below c.loop-b.value c.in_ok-value.field-0 c.loop-b.b-index c.loop-b.invariant.0 c.in_ok-value.ensures.bound,
   sym (digit_more c.args.digits.now c.loop-b.value c.loop-b.b-index c.in_ok-value.field-0 c.loop-b-test.true (sym c.in_ok-value.ensures.value)) ∙ c.loop-b.invariant.1,
 )
-
-pub returns : goal.returns
-returns c = sym (digits_all c.args.digits.now c.loop-b.value c.loop-b.b-index c.loop-b-test.false) ∙ c.loop-b.invariant.1
