@@ -1,8 +1,10 @@
 use crate::alternating::Alternating;
+use double_double::arithmetic::Arithmetic;
 use double_double::plain::Plain;
-use erfc::answer::rounded_ends;
+use erfc::answer::{Answer, rounded_ends};
 use erfc::err::erfc::f_erfc;
 use std::num::f64_to_bits_with_nan;
+use std::process::Abort;
 use std::test::Fail;
 
 // An argument with its value, code, fast row and k, accurate row and K. The code is the number that callers see, so that its number is tested too.
@@ -109,14 +111,24 @@ const FIGURES: [Figure; 13] = [
     },
 ];
 
+// The record of a figure's argument, with its value and code as the figure has them.
+fn answer_of<A: Arithmetic>(
+    rt: &impl Abort,
+    arith: &mut A,
+    figure: &Figure,
+) -> Result<Answer, Fail> {
+    let Ok(answer) = f_erfc(arith, figure.bits) else {
+        return Err(Fail::new("refused"));
+    };
+    assert_eq!(rt; f64_to_bits_with_nan(answer.value), figure.value);
+    assert_eq!(rt; u8::from(answer.code), figure.code);
+    Ok(answer)
+}
+
 #[test]
 fn figures(rt: HostRuntime) -> Result<(), Fail> {
     for figure in FIGURES.iter() {
-        let Ok(answer) = f_erfc(&mut Plain, figure.bits) else {
-            return Err(Fail::new("refused"));
-        };
-        assert_eq!(rt; f64_to_bits_with_nan(answer.value), figure.value);
-        assert_eq!(rt; u8::from(answer.code), figure.code);
+        let answer = answer_of(&rt, &mut Plain, figure)?;
         assert_eq!(rt; answer.fast.map(|fast| (fast.row, fast.k)), figure.fast);
         assert_eq!(rt;
             answer.accurate.map(|accurate| (accurate.row, accurate.k)),
@@ -127,7 +139,7 @@ fn figures(rt: HostRuntime) -> Result<(), Fail> {
     Ok(())
 }
 
-// The first and the last argument of each refused range, with the number of the refusal.
+// The first and the last argument of each refused range, with the number that callers see.
 const REFUSED: [(u64, u8); 6] = [
     (0x3c8c5bf891b4ef6b, 1),
     (0x3ff0000000000000, 1),
@@ -156,11 +168,7 @@ fn alternating(rt: HostRuntime) -> Result<(), Fail> {
         calls: 0,
     };
     for figure in FIGURES.iter() {
-        let Ok(answer) = f_erfc(&mut arith, figure.bits) else {
-            return Err(Fail::new("refused"));
-        };
-        assert_eq!(rt; f64_to_bits_with_nan(answer.value), figure.value);
-        assert_eq!(rt; u8::from(answer.code), figure.code);
+        let _ = answer_of(&rt, &mut arith, figure)?;
     }
     // 3 fast answers of 23 calls, 2 retried of 65 and their rows 3 and 6, 2 without a fast step of 42
     assert_eq!(rt; arith.calls, 3 * 23 + 2 * 65 + 3 + 6 + 2 * 42);

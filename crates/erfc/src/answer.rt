@@ -48,6 +48,7 @@ pub struct AccuratePart {
     pub pair: DoubleDouble,
 }
 
+// A record with the parts that exist, by this project's rule; the code says how it came about.
 #[derive(Clone, Copy)]
 pub struct Answer {
     pub value: f64,
@@ -72,7 +73,7 @@ impl From<Refusal> for u8 {
     }
 }
 
-// The two ends of the rounding test, each rounded; whoever finds no fast part stops there.
+// The two ends of the rounding test, each rounded, where there was a fast step. By this project's rule a reader who finds no fast part stops there.
 pub fn rounded_ends(record: &Answer) -> Option<(f64, f64)>
     ensures { result ≡ ends_of «record».now }
 {

@@ -3,6 +3,7 @@ ghost use Rattle.std.specs.Prelude.{◌≡◌};
 ghost use Rattle.erfc.specs.Classes.{class_of};
 
 use crate::answer::Refusal;
+use crate::argument::{FAST_END, TAIL_END};
 
 #[derive(Clone, Copy)]
 pub enum Class {
@@ -24,11 +25,11 @@ pub fn classify(bits: u64) -> Result<Class, Refusal>
         Ok(Class::One)
     } else if bits < 0x400713786d9c7c0a {
         Err(Refusal::Positive)
-    } else if bits < 0x4039db1bb14e15ca {
+    } else if bits < FAST_END {
         Ok(Class::FastTail)
     } else if bits == 0x403a8f7bfbd15495 {
         Ok(Class::Listed)
-    } else if bits < 0x403b39dc41e48bfd {
+    } else if bits < TAIL_END {
         Ok(Class::FarTail)
     } else if bits <= 0x7ff0000000000000 {
         Ok(Class::Zero)

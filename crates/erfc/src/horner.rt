@@ -15,7 +15,7 @@ pub trait Terms {
 
     ghost adds: { Self → ℕ → DoubleDouble → DoubleDouble };
 
-    // Coefficient n plus v.
+    // Coefficient n plus v. A place is asked for where it is read, here and in `Numbers` and `Coefficients`: a type for it would be made at each turn.
     fn add(&self, n: usize, v: DoubleDouble) -> DoubleDouble
         requires { n < count self.now }
         ensures { result ≡ adds self.now n v };
@@ -78,11 +78,12 @@ impl Coefficients for ExpNumbers {
     }
 }
 
+// As the exponential's; a shared body would have to be told apart from the next by a trait of its own.
 impl Coefficients for AsymptoticNumbers {
     ghost sum = { fast_two_sum };
 
-    fn sum(c: f64, v: f64) -> DoubleDouble {
-        DoubleDouble::from_exact_add(c, v)
+    fn sum(p: f64, v: f64) -> DoubleDouble {
+        DoubleDouble::from_exact_add(p, v)
     }
 }
 

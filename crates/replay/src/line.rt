@@ -1,5 +1,5 @@
 // A line `argument,plain,fused`: three times 16 lowercase hex digits, parted by commas, ended by byte 0a.
-ghost use Rattle.std.specs.Prelude.{◌≡◌, ◌+◌, ◌*◌, ◌<◌, ◌≤◌, true, length};
+ghost use Rattle.std.specs.Prelude.{Some, codes, ◌≡◌, ◌+◌, ◌*◌, ◌<◌, ◌≤◌, true, length};
 ghost use Rattle.replay.specs.Lines.{digit_of, hex_from, OnSome, framed, line_of, line_or};
 
 use std::error::Error;
@@ -21,6 +21,8 @@ pub struct Line {
 pub struct Malformed;
 
 impl fmt::Display for Malformed {
+    ghost output = { λ _. Some (codes "a line is not so formed") };
+
     fn fmt<W: fmt::Write>(&self, f: &mut fmt::Formatter<W>) -> fmt::Result {
         f.write_str("a line is not so formed")
     }
@@ -28,6 +30,7 @@ impl fmt::Display for Malformed {
 
 impl Error for Malformed {}
 
+// Lowercase alone: the library's digits are capitals too.
 fn digit(b: u8) -> Option<u64>
     ensures value { result ≡ digit_of b }
     ensures bound { OnSome result (λ d. d < 16) }
@@ -59,6 +62,7 @@ fn is_framed(bytes: &[u8]) -> bool
     bytes.len() == LENGTH && bytes[16] == b',' && bytes[33] == b',' && bytes[50] == b'\n'
 }
 
+// Its three fields go by `?`, so that one `ok_or` serves them all.
 fn line_in(bytes: &[u8]) -> Option<Line>
     ensures { result ≡ line_of bytes.now }
 {

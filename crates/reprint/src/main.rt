@@ -69,7 +69,7 @@ impl<A: Arithmetic> fmt::Display for Side<A> {
     }
 }
 
-// Why no line was read.
+// Why no line was read; `main` alone tells the two apart.
 #[derive(Drop)]
 enum ReadError {
     Io(io::Error),

@@ -26,14 +26,14 @@ pub trait Numbers {
     ghost fits: { (x : Self) → count x < 2 ^ 64 };
 }
 
-// One row of a polynomial's table. The count of its loop stands in the row, because one that the compiler knows makes it unroll the loop, which costs 12 ns an answer.
+// One row of a polynomial's table, with the count of its loop over pairs. In the fast rows the count stands here because one that the compiler knows makes it unroll the loop; the accurate rows have it so that both tables have one type.
 #[derive(Clone, Copy)]
 pub struct Row<const N: usize> {
     pub p: [u64; N],
     pub turns: usize,
 }
 
-// The number with the bits at place n.
+// The number with the bits at place n. That the entries are finite is asked of the table here, in `number_in` and in exp's `entry`: the kit refuses a static of a struct with a ghost field.
 #[tactic(auto, using(crate::proofs::Finite::no_nan_at))]
 pub(crate) fn number_at(bits: &[u64], n: usize) -> f64
     requires n_in { n < length bits.now }

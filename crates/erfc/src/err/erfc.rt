@@ -74,9 +74,9 @@ fn reduced_argument<A: Arithmetic>(arith: &mut A, k: f64, x: DoubleDouble) -> Do
 
 // A fast exponential, and the multiple of log(2)/4096 that was taken off.
 #[derive(Clone, Copy)]
-pub struct Exp1 {
-    pub k: i64,
-    pub result: DoubleDouble,
+struct Exp1 {
+    k: i64,
+    result: DoubleDouble,
     ghost k_low: { negsuc 3999999 ≤ℤ k },
     ghost k_high: { k ≤ℤ negsuc 48999 },
 }
@@ -135,9 +135,9 @@ fn leading_degrees<A: Arithmetic>(arith: &mut A, y_dd: DoubleDouble) -> DoubleDo
 
 // An accurate exponential: result * 2^e.
 #[derive(Clone, Copy)]
-pub struct Exp {
-    pub e: i32,
-    pub result: DoubleDouble,
+struct Exp {
+    e: i32,
+    result: DoubleDouble,
     ghost e_low: { negsuc 1069 ≤ℤ e },
     ghost e_high: { e ≤ℤ negsuc 11 },
 }
@@ -301,7 +301,7 @@ fn erfc_asympt_accurate<A: Arithmetic>(
     }
 }
 
-// A tail argument with a fast step. Rows and multiples are `Within` their bounds over an arithmetic with the meaning alone; the record is also made over others, so its type can't say it.
+// A tail argument with a fast step. Rows and multiples are `Within` their bounds over an arithmetic with the meaning alone; `specs/` makes the record over others too, so its type can't say it.
 fn erfc_fast_tail<A: Arithmetic>(arith: &mut A, argument: TailArgument<FAST_END>) -> Answer
     ensures value { (arith.new, result) ≡ with_fast_step A.Arithmetic.ops arith.old (from_bits binary64 argument.bits) }
     ensures within { Within result }

@@ -73,7 +73,7 @@ fn scaled_up(d: f64, i: i32) -> f64
     times_power(x, n)
 }
 
-// d * 2^i, in at most three products.
+// d * 2^i, in at most three products; d and i are the Rust's two parameters.
 #[tactic(auto, unfolding(crate::specs::Scaling::ldexp_of))]
 pub(crate) fn ldexp_steps(d: f64, i: i32) -> f64
     ensures { result ≡ ldexp_of d i }

@@ -117,7 +117,7 @@ pub static ASYMPTOTIC_POLY: [Row<13>; 6] = [
     },
 ];
 
-// Six coefficients of two numbers each, then single ones, then zeros; `turns` of the single ones are added to pairs in a loop.
+// Six coefficients of two numbers each, then single ones, then zeros, as in the Rust; `turns` of the single ones are added to pairs in a loop.
 pub static ASYMPTOTIC_POLY_ACCURATE: [Row<30>; 10] = [
     Row {
         p: [
@@ -503,7 +503,7 @@ pub static E2: [u64; 28] = [
     0x3c6abfe1602308c9,
 ];
 
-// The numbers of a row of the fast polynomial.
+// The numbers of a row of the fast polynomial. Two row types over one trait: no parameter of a type can name a table.
 #[derive(Clone, Copy)]
 pub struct AsymptoticNumbers {
     pub row: usize,

@@ -141,7 +141,7 @@ pub static EXP_REDUCE_T1: [(u64, u64); 64] = [
     (0x3c9e471202234680, 0x3ff02be6e199c811),
 ];
 
-// The pair whose bits stand at place i.
+// The pair whose bits stand at place i, as `from_bit_pair` gives it, but with no test for a NaN at each read.
 #[tactic(auto, using(crate::proofs::Finite::no_nan_low, crate::proofs::Finite::no_nan_high))]
 fn entry(table: &[(u64, u64)], i: usize) -> DoubleDouble
     requires i_in { i < length table.now }
@@ -152,7 +152,7 @@ fn entry(table: &[(u64, u64)], i: usize) -> DoubleDouble
     DoubleDouble::new(f64::from_bits(lo), f64::from_bits(hi))
 }
 
-// 2^(i/64)
+// 2^(i/64). Two functions over one read: no contract can name a table in the code, so each states which list its table is; an index is below 64 as `reduced_indices` gives it.
 pub fn exp_reduce_0(i: usize) -> DoubleDouble
     requires { i < 64 }
     ensures { result ≡ reduce0 i }
