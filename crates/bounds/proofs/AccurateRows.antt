@@ -29,7 +29,7 @@ abbrev pub ceiling : ℕ
 ceiling = 62 * 2 ^ 256 / 100
 
 -- what is shown of each row below 7: the low part at most 2 ^ -52, the pair within 2 ^ -100 of the polynomial
-abbrev row_bounds : State
+abbrev pub row_bounds : State
 row_bounds = record { high = ceiling; low = 2 ^ 204; error = 2 ^ 156; size = ceiling }
 
 table_fine : T (below (row_fine table row_bounds floor) 7)

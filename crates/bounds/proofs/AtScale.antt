@@ -115,7 +115,7 @@ pub turn : (p i e : Q) → Same (p ⊗ i ⊗ e) (e ⊗ i ⊗ p)
 turn p i e = record { same = omega arith }
 
 -- ---- the two parts of a pair added exactly: the larger one leads
-leads_at : {K : ℕ} {K>0 : zero < K} (p : DoubleDouble) {A : Q} {h l e s f : ℕ} → At K K>0 p A h l e s f → l + (e + l) ≤ f → nat_abs (val p.lo) ≤ nat_abs (val p.hi)
+pub leads_at : {K : ℕ} {K>0 : zero < K} (p : DoubleDouble) {A : Q} {h l e s f : ℕ} → At K K>0 p A h l e s f → l + (e + l) ≤ f → nat_abs (val p.lo) ≤ nat_abs (val p.hi)
 leads_at {K>0 = K>0} p {l = l} a i = le_of_mul-le-mul_right (le_trans (in_units (val p.lo) a.lo) (least_units (val p.hi) (high_least p l a i))) K>0
 
 -- that sum: a pair near the same number, with a low part of half a last digit

@@ -37,7 +37,7 @@ use Rattle.bounds.proofs.ExpWhole.{whole_half, neg_same, near_minus, abs_minus, 
 abbrev step : Float
 step = log2_pair.hi
 
-inverse_size : Abs (exactly inv_log2) (2 ^ 269)
+pub inverse_size : Abs (exactly inv_log2) (2 ^ 269)
 unfolding of_bits
 inverse_size = abs_to (2 ^ 269) (size_of (exactly inv_log2)) tt
 

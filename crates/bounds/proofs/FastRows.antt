@@ -29,7 +29,7 @@ abbrev pub ceiling : ℕ
 ceiling = 61 * 2 ^ 256 / 100
 
 -- what is shown of each row: the low part at most 2 ^ -48, the pair within 23 / 2 ^ 73 of the polynomial
-abbrev row_bounds : State
+abbrev pub row_bounds : State
 row_bounds = record { high = ceiling; low = 2 ^ 208; error = 23 * 2 ^ 183; size = ceiling }
 
 table_fine : T (below (row_fine table row_bounds floor) 6)

@@ -25,14 +25,14 @@ half₀ : (s z : ℤ) (l : ℕ) → 2 ^ 53 * nat_abs (s *ℤ pos l -ℤ z) ≤ n
 half₀ s z l h = rw (scaled s z l (2 ^ 53)) (omega (arith, h))
 
 -- s is z / 2 ^ 1074 rounded: the error is 2 ^ -53 of it and half a unit, 2 ^ -1075
-nearest_within : (s z : ℤ) (a b : Q) → Over a s (2 ^ 1074) → Over b z (2 ^ 1074 * 2 ^ 1074) → s ≡ rq z (2 ^ 1074) → Within a b (tiny 53 ⊗ mag b ⊕ tiny 1075)
+pub nearest_within : (s z : ℤ) (a b : Q) → Over a s (2 ^ 1074) → Over b z (2 ^ 1074 * 2 ^ 1074) → s ≡ rq z (2 ^ 1074) → Within a b (tiny 53 ⊗ mag b ⊕ tiny 1075)
 nearest_within s z a b A B e =
     within_over {x = s *ℤ pos (2 ^ 1074 * 2 ^ 53)} {y = z *ℤ pos (2 ^ 53)} {e = 1 * nat_abs z + 1 * (2 ^ 52 * 2 ^ 1074)} {k = 2 ^ 2201} (pow_pos 2201)
     (over_scale (2 ^ 1074 * 2 ^ 53) refl A) (over_scale (2 ^ 53) refl B) (over_add (over_mul (over_tiny 53) (over_mag B)) (over_scale (2 ^ 52 * 2 ^ 1074) refl (over_tiny 1075)))
     (half₀ s z (2 ^ 1074) (subst (λ (t : ℤ). 2 ^ 53 * nat_abs (t *ℤ pos (2 ^ 1074) -ℤ z) ≤ nat_abs z + 2 ^ 52 * 2 ^ 1074) (sym e) (rq_error z (2 ^ 1074) (pow_pos 1074))))
 
 -- s and z over one k, and s within 2 ^ -53 of z: no half unit
-rounded_within : (s z : ℤ) (a b : Q) (k : ℕ) → zero < k → Over a s k → Over b z k → 2 ^ 53 * nat_abs (s -ℤ z) ≤ nat_abs z → Within a b (tiny 53 ⊗ mag b)
+pub rounded_within : (s z : ℤ) (a b : Q) (k : ℕ) → zero < k → Over a s k → Over b z k → 2 ^ 53 * nat_abs (s -ℤ z) ≤ nat_abs z → Within a b (tiny 53 ⊗ mag b)
 rounded_within s z a b k K A B h =
     within_over {x = s *ℤ pos (2 ^ 53)} {y = z *ℤ pos (2 ^ 53)} {e = 1 * nat_abs z} {k = 2 ^ 53 * k} (mul-pos (pow_pos 53) K)
     (over_scale (2 ^ 53) (mul_comm k (2 ^ 53)) A) (over_scale (2 ^ 53) (mul_comm k (2 ^ 53)) B) (over_mul (over_tiny 53) (over_mag B))
@@ -43,7 +43,7 @@ pairs₀ : (x y : ℤ) (l p q r s : ℕ) → 2 ^ 104 * nat_abs (x *ℤ pos l -�
 pairs₀ x y l p q r s h = rw (scaled x y l (2 ^ 104)) (omega (arith, h))
 
 -- pair times pair, where each part is an integer over 2 ^ 1074; a zero part too, so it serves for numbers
-pair_mul : (al ah bl bh lo hi : ℤ) (a b : Pair) → Over a.lo al (2 ^ 1074) → Over a.hi ah (2 ^ 1074) → Over b.lo bl (2 ^ 1074) → Over b.hi bh (2 ^ 1074) → hi ≡ rq (ah *ℤ bh) (2 ^ 1074)
+pub pair_mul : (al ah bl bh lo hi : ℤ) (a b : Pair) → Over a.lo al (2 ^ 1074) → Over a.hi ah (2 ^ 1074) → Over b.lo bl (2 ^ 1074) → Over b.hi bh (2 ^ 1074) → hi ≡ rq (ah *ℤ bh) (2 ^ 1074)
     → 2 ^ 104 * nat_abs (fine (hi +ℤ lo) -ℤ (ah +ℤ al) *ℤ (bh +ℤ bl)) ≤ 2 ^ 104 * nat_abs (al *ℤ bl) + 2 ^ 54 * (nat_abs (ah *ℤ bl) + nat_abs (al *ℤ bh)) + nat_abs (ah *ℤ bh) + 2 ^ 108 * 2 ^ 1074
     → PairMul a b (record { hi = units hi; lo = units lo })
 pair_mul al ah bl bh lo hi a b A A' B B' e h = record {

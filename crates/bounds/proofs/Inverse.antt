@@ -21,25 +21,25 @@ use Rattle.bounds.proofs.RecipPair.{reciprocal_near}
 abbrev pub inv : (z : ℤ) → 0 < above z → Q
 inv z p = record { up = 2 ^ 1074; dn = 0; den = above z; ok = p }
 
-near_inverse : (z : ℤ) (p : 0 < above z) (s : Q) (k e : ℕ) → 2 ^ 1074 ≡ e * 2 ^ k → Within (units z ⊗ s) (whole 1) (tiny k) → N.Near (above z) p s (inv z p) e
+pub near_inverse : (z : ℤ) (p : 0 < above z) (s : Q) (k e : ℕ) → 2 ^ 1074 ≡ e * 2 ^ k → Within (units z ⊗ s) (whole 1) (tiny k) → N.Near (above z) p s (inv z p) e
 near_inverse (pos X) p s k e i h = record {
   le = omega (arith, mul-le-mul_right X (le_of_mul-le-mul_right {m = X * s.up} {n = X * s.dn + 2 ^ 1074 * s.den + e * s.den} (omega (arith, h.le, ap (λ (z : ℕ). z * s.den) i)) (pow_pos k)));
   ge = omega (arith, mul-le-mul_right X (le_of_mul-le-mul_right {m = X * s.dn + 2 ^ 1074 * s.den} {n = X * s.up + e * s.den} (omega (arith, h.ge, ap (λ (z : ℕ). z * s.den) i)) (pow_pos k)));
 }
 near_inverse (negsuc X) p s k e i h = absurd (omega (arith, p))
 
-small_inverse : (z : ℤ) (p : 0 < above z) (s : Q) (k e : ℕ) → 2 ^ 1074 ≡ e * 2 ^ k → Within (units z ⊗ s) (whole 0) (tiny k) → N.Abs (above z) p s e
+pub small_inverse : (z : ℤ) (p : 0 < above z) (s : Q) (k e : ℕ) → 2 ^ 1074 ≡ e * 2 ^ k → Within (units z ⊗ s) (whole 0) (tiny k) → N.Abs (above z) p s e
 small_inverse (pos X) p s k e i h = record { le = le_of_mul-le-mul_right (omega (arith, h.le, ap (λ (z : ℕ). z * s.den) i)) (pow_pos k); ge = le_of_mul-le-mul_right (omega (arith, h.ge, ap (λ (z : ℕ). z * s.den) i)) (pow_pos k) }
 small_inverse (negsuc X) p s k e i h = absurd (omega (arith, p))
 
-inverse_size : (z : ℤ) (p : 0 < above z) → N.Abs (above z) p (inv z p) (2 ^ 1074)
+pub inverse_size : (z : ℤ) (p : 0 < above z) → N.Abs (above z) p (inv z p) (2 ^ 1074)
 inverse_size z p = record { le = omega arith; ge = omega arith }
 
-inverse_least : (z : ℤ) (p : 0 < above z) → Least (above z) (inv z p) (2 ^ 1074)
+pub inverse_least : (z : ℤ) (p : 0 < above z) → Least (above z) (inv z p) (2 ^ 1074)
 inverse_least z p = record { le = omega arith }
 
 -- the pair for 1/x
-of_reciprocal : (x : Float) (p : 0 < above (val x)) (y : DoubleDouble) → Reciprocal x y → At (above (val x)) p y (inverse x p) (2 ^ 1074 + 2 ^ 1021) (2 ^ 1022) (2 ^ 970) (2 ^ 1074) (2 ^ 1074)
+pub of_reciprocal : (x : Float) (p : 0 < above (val x)) (y : DoubleDouble) → Reciprocal x y → At (above (val x)) p y (inverse x p) (2 ^ 1074 + 2 ^ 1021) (2 ^ 1022) (2 ^ 970) (2 ^ 1074) (2 ^ 1074)
 of_reciprocal x p y r = record {
   lo_number = r.low;
   hi_number = r.high;

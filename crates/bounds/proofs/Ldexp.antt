@@ -47,7 +47,7 @@ scaled_is (fin s m e) i n g h = subst (λ (x : Float). IsNumber x (rq (val (fin 
 pub grown : (a p q : ℕ) → a ≤ p → 0 < q → a ≤ p * q
 grown a p q h Q = omega (arith, mul-le-mul_left p Q)
 
-times_down : (x y : Float) (n i : ℕ) → Number x → T (fits binary64 y) → HasValue y false 1 (2 ^ n) → n ≤ 1074 → i < 2098 → nat_abs (val x) ≤ 2 ^ i → IsNumber (mul binary64 x y) (rq (val x) (2 ^ n))
+pub times_down : (x y : Float) (n i : ℕ) → Number x → T (fits binary64 y) → HasValue y false 1 (2 ^ n) → n ≤ 1074 → i < 2098 → nat_abs (val x) ≤ 2 ^ i → IsNumber (mul binary64 x y) (rq (val x) (2 ^ n))
 times_down x y n i X f v h I b =
     let w = of_value y false (2 ^ (1074 - n)) (rescaled y false 1 (2 ^ n) (2 ^ (1074 - n)) (2 ^ 1074) (pow_pos n) v (joined ∙ sym (one-mul (2 ^ 1074)))) in
     let e : val x *ℤ val y *ℤ pos (2 ^ n) ≡ val x *ℤ pos (2 ^ 1074) = ap (λ (z : ℤ). val x *ℤ z *ℤ pos (2 ^ n)) w.1 ∙ massoc (val x) (pos (2 ^ (1074 - n))) (pos (2 ^ n)) ∙ ap (λ (z : ℕ). val x *ℤ pos z) joined in

@@ -86,7 +86,7 @@ good x n h t = sized_good x n (abs_to (2 ^ 600) h t) 1474 tt
 pub operand : (x : Float) {m : ℕ} → Number x → Abs (exactly x) m → T (modest m) → Operand x
 operand x n h t = sized_operand x n (abs_to (2 ^ 600) h t) tt
 
-times_holds : {S A : State} {z u : DoubleDouble} (v : DoubleDouble) {Z U : Q} → Holds S z Z → Holds A u U → PairMul (pair z) (pair u) (pair v) → Number v.lo → Number v.hi → Holds (times S A) v (Z ⊗ U)
+pub times_holds : {S A : State} {z u : DoubleDouble} (v : DoubleDouble) {Z U : Q} → Holds S z Z → Holds A u U → PairMul (pair z) (pair u) (pair v) → Number v.lo → Number v.hi → Holds (times S A) v (Z ⊗ U)
 times_holds v h k m l n = record {
   lo_number = l;
   hi_number = n;
@@ -278,7 +278,7 @@ head A = record { high = A.high; low = 0; error = A.low + A.error; size = A.size
 pub head_one : {A : State} (u : DoubleDouble) {U : Q} → Holds A u U → One (head A) u.hi U
 head_one u k = record { number = k.hi_number; high = k.parts.hi; near = near_sym (kept (exactly u.hi) k.parts.lo) then k.near; size = k.size }
 
-abbrev fma_lost : State → State → Float → ℕ
+abbrev pub fma_lost : State → State → Float → ℕ
 fma_lost S A c = shr (above c + mul_g S.high A.high) 53 + shr (mul_g S.high A.high + above c) 103 + 1
 
 abbrev pub fma_state : State → State → Float → State

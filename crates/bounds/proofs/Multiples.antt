@@ -51,7 +51,7 @@ multiple_from i x f l =
     mult_down i r.j (val x) (places i r.j (lt_of_le_of_lt l a)) (r.q, r.is)
 
 -- the last place of a number below 2 ^ 53 of a unit is no larger
-last_within : (i : ℕ) (x : Float) → nat_abs (val x) < 2 ^ 53 * 2 ^ i → last x ≤ i
+pub last_within : (i : ℕ) (x : Float) → nat_abs (val x) < 2 ^ 53 * 2 ^ i → last x ≤ i
 last_within i x h = elim (placed_one (nat_abs (val x))).1 [
   | inl e ↦ omega (arith, e)
   | inr l ↦ places (last x) i (lt_of_le_of_lt l h)

@@ -39,7 +39,7 @@ unscaled : (v y z : ℤ) (d : ℕ) → 0 < d → nat_abs (v *ℤ pos d -ℤ z *�
 unscaled v y z d p e = eq_of_mul-eq-mul_right d p _ _ (sym (scaled v z d) ∙ e ∙ scaled y z d)
 
 -- nearest to both ends, so nearest to what lies between them
-nearest_between : (l r a : ℤ) (d : ℕ) (v : Float) → 0 < d → Upto (l *ℤ pos d) a → Upto a (r *ℤ pos d) → Nearest l 1 v → Nearest r 1 v → Nearest a d v
+pub nearest_between : (l r a : ℤ) (d : ℕ) (v : Float) → 0 < d → Upto (l *ℤ pos d) a → Upto a (r *ℤ pos d) → Nearest l 1 v → Nearest r 1 v → Nearest a d v
 nearest_between l r a d v p h i L R = record {
   number = L.number;
   nearest = λ y n. omega (zs, h, i, scaled_le (val v) (val y) l d (L.nearest y n), scaled_le (val v) (val y) r d (R.nearest y n));
@@ -62,7 +62,7 @@ best_at s n v y m e =
     subst (λ (t : ℤ). Best (signed s n) 1 t (EvenEnd v) (val y)) (sym e)
     (b.0, λ i. elim (b.1 i) [ inl j ↦ inl j | inr j ↦ inr (subst (λ (l : ℕ). Mult (suc l) (val v)) k (subst (Mult (suc (drop 53 (rnd n 1) 1))) (sym e) j)) ])
 
-rounded_nearest : (z : ℤ) (v : Float) → Number v → val v ≡ rz z → Nearest z 1 v
+pub rounded_nearest : (z : ℤ) (v : Float) → Number v → val v ≡ rz z → Nearest z 1 v
 rounded_nearest (pos n) v m e = record { number = m; nearest = λ y k. (best_at false n v y k e).0; even = λ y k. (best_at false n v y k e).1 }
 rounded_nearest (negsuc n) v m e = record { number = m; nearest = λ y k. (best_at true (suc n) v y k e).0; even = λ y k. (best_at true (suc n) v y k e).1 }
 

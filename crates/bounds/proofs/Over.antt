@@ -75,7 +75,7 @@ same_over {a} {b} {x} {k} K h i = record {
 }
 
 -- ---- and back
-within_out : {a b r : Q} {x y : ℤ} {e k : ℕ} → Over a x k → Over b y k → Over r (pos e) k → Within a b r → nat_abs (x -ℤ y) ≤ e
+pub within_out : {a b r : Q} {x y : ℤ} {e k : ℕ} → Over a x k → Over b y k → Over r (pos e) k → Within a b r → nat_abs (x -ℤ y) ≤ e
 within_out {a} {b} {r} {x} {y} {e} {k} h i j w =
     let p = mul-pos (mul-pos a.ok b.ok) r.ok in
     both x y e

@@ -19,7 +19,7 @@ abbrev pub below : (ℕ → Bool) → ℕ → Bool
 below test zero = true
 below test (suc n) = test n && below test n
 
-at_row : (test : ℕ → Bool) (n row : ℕ) → row < n → T (below test n) → T (test row)
+pub at_row : (test : ℕ → Bool) (n row : ℕ) → row < n → T (below test n) → T (test row)
 at_row test zero row h t = absurd (omega (arith, h))
 at_row test (suc n) row h t = go (dec_le n row) (λ l. at_row test n row l (Comp.and_r (test n) (below test n) t))
   where
@@ -28,21 +28,21 @@ at_row test (suc n) row h t = go (dec_le n row) (λ l. at_row test n row l (Comp
     go (no l) f = f (omega (arith, l))
 
 -- an error of e / G is at most r
-abbrev within_limit : Q → ℕ → Bool
+abbrev pub within_limit : Q → ℕ → Bool
 within_limit r e = leb (r.dn * G + e * r.den) (r.up * G)
 
-limited : {a b : Q} (r : Q) (e : ℕ) → Near a b e → T (within_limit r e) → Within a b r
+pub limited : {a b : Q} (r : Q) (e : ℕ) → Near a b e → T (within_limit r e) → Within a b r
 limited r e h t = near_within {e = e} h (record { le = leb→le _ _ t })
 
 -- the bounds of u
 module _ (thresholds : List ℕ) where
-  abbrev square : ℕ → ℕ
+  abbrev pub square : ℕ → ℕ
   square row = Comp.above G G>0 (square_bound thresholds row)
 
-  abbrev argument : ℕ → State
+  abbrev pub argument : ℕ → State
   argument row = record { high = square row + (shr (square row) 51 + shr (square row) 98); low = shr (square row) 51; error = shr (square row) 98; size = square row }
 
-  holds_argument : (row : ℕ) (u : DoubleDouble) (U : Q) → NearSquare thresholds row u U → Holds (argument row) u U
+  pub holds_argument : (row : ℕ) (u : DoubleDouble) (U : Q) → NearSquare thresholds row u U → Holds (argument row) u U
   holds_argument row u U g =
       let size = Comp.zero_abs (N.within_near g.size (size_of (square_bound thresholds row))) in
       record { lo_number = g.low; hi_number = g.high; parts = record { hi = high_size u 98 51 g.near g.low_small size; lo = low_size u 98 51 g.near g.low_small size }; near = sum_near u 98 51 g.near g.low_small size; size = size }
@@ -55,7 +55,7 @@ pub record Rows : Type 0 where
   pub tests : ℕ → State → List Bool
 
 module _ (R : Rows) where
-  abbrev bounds_out : ℕ → State
+  abbrev pub bounds_out : ℕ → State
   bounds_out row = R.bounds row (argument R.thresholds row)
 
   abbrev tested : ℕ → Bool
@@ -72,7 +72,7 @@ module _ (R : Rows) where
   module _ {S : Type 0} (steps : S → ℕ → DoubleDouble → S × DoubleDouble)
       (sound : (s : S) (row : ℕ) (A : State) (u : DoubleDouble) (U : Q) → Holds A u U → T (conj (R.tests row A)) → Holds (R.bounds row A) (steps s row u).1 (polynomial U (R.coefficients row)))
       (r : Q) (rows : ℕ) (pass : T (below (row_passes r) rows)) where
-    row_holds : (s : S) (row : ℕ) (u : DoubleDouble) (U : Q) → row < rows → NearSquare R.thresholds row u U → Holds (bounds_out row) (steps s row u).1 (polynomial U (R.coefficients row))
+    pub row_holds : (s : S) (row : ℕ) (u : DoubleDouble) (U : Q) → row < rows → NearSquare R.thresholds row u U → Holds (bounds_out row) (steps s row u).1 (polynomial U (R.coefficients row))
     row_holds s row u U l g = sound s row (argument R.thresholds row) u U (holds_argument R.thresholds row u U g) (Comp.and_l (tested row) (within_limit r (bounds_out row).error) (at_row (row_passes r) rows row l pass))
 
     pub row_within : (s : S) (row : ℕ) (u : DoubleDouble) (U : Q) → row < rows → NearSquare R.thresholds row u U → Within (sum_of (steps s row u).1) (polynomial U (R.coefficients row)) r

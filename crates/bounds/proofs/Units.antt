@@ -24,7 +24,7 @@ power_below a t k T h (inr l) = elim (order t k) [
   | inr g ↦ subst (λ (z : ℕ). z ≤ 2 ^ t) (pow-succ' 2 k) (pow_mono {i = suc k} {j = t} g)
 ]
 
-first_near : (a t : ℕ) → 0 < t → rnd a 1 < 2 ^ (52 + t) → (rnd a 1 * 4 ≤ a * 4 + 2 ^ t) × (a * 4 ≤ rnd a 1 * 4 + 2 ^ t)
+pub first_near : (a t : ℕ) → 0 < t → rnd a 1 < 2 ^ (52 + t) → (rnd a 1 * 4 ≤ a * 4 + 2 ^ t) × (a * 4 ≤ rnd a 1 * 4 + 2 ^ t)
 first_near a t T h =
     let u = unit_of a 1 (omega arith) in
     let p = power_below a t u.k T h u.lo in

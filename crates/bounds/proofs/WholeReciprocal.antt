@@ -199,7 +199,7 @@ pub record Inverse (x lo hi : Float) : Type 0 where
   pub high_near : 2 ^ 53 * nat_abs (pos X *ℤ val hi -ℤ pos (2 ^ 1074) *ℤ pos (2 ^ 1074)) ≤ 2 ^ 1074 * 2 ^ 1074
   pub low_small : 2 ^ 55 * nat_abs (pos X *ℤ val lo) ≤ 5 * (2 ^ 1074 * 2 ^ 1074)
 
-one_is : val one ≡ pos (2 ^ 1074)
+pub one_is : val one ≡ pos (2 ^ 1074)
 unfolding of_bits
 one_is = refl
 

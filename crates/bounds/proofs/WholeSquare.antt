@@ -94,13 +94,13 @@ module _ (u v w p q b : ℤ) (N f : ℕ)
   madd_near : 2 ^ 103 * nat_abs (w -ℤ (q +ℤ v)) ≤ N
   madd_near = omega (arith, h₃, low_sum, k₂, v_small)
 
-  total_high : 2 ^ 53 * nat_abs (u -ℤ pos N) ≤ 4 * N
+  pub total_high : 2 ^ 53 * nat_abs (u -ℤ pos N) ≤ 4 * N
   total_high = omega (arith, ap nat_abs (step_3 u p (pos N)), u_near, k₁, abs_add (u -ℤ p) (p -ℤ pos N))
 
-  total_low : 2 ^ 51 * nat_abs w ≤ 1 * N
+  pub total_low : 2 ^ 51 * nat_abs w ≤ 1 * N
   total_low = omega (arith, ap nat_abs (step_1 w (q +ℤ v)), madd_near, low_sum, abs_add (w -ℤ (q +ℤ v)) (q +ℤ v))
 
-  total_near : 2 ^ 98 * nat_abs (u +ℤ w -ℤ pos N) ≤ 1 * N
+  pub total_near : 2 ^ 98 * nat_abs (u +ℤ w -ℤ pos N) ≤ 1 * N
   total_near = omega (triangle, ap nat_abs (step_4 u v w p q b (pos N)), madd_near, pair_near, k₃, k₄)
 
   -- all three

@@ -10,7 +10,7 @@ in_float_lem : (n : ℕ) → suc n ≤ 2 ^ 53 → T (in_float binary64 (negsuc n
 unfolding in_float
 in_float_lem n h = lt→ltb n (2 ^ 53) h
 
-within : (k : ℤ) (n low high : ℕ) → k ≡ negsuc n → suc low ≤ suc n → suc n ≤ suc high → (negsuc high ≤ℤ k) × (k ≤ℤ negsuc low)
+pub within : (k : ℤ) (n low high : ℕ) → k ≡ negsuc n → suc low ≤ suc n → suc n ≤ suc high → (negsuc high ≤ℤ k) × (k ≤ℤ negsuc low)
 within k n low high e p q =
     let inside : ℤ → Type 0 = λ z. (negsuc high ≤ℤ z) × (z ≤ℤ negsuc low) in
     subst inside (sym e) (record { le = le→leb n high (omega arith) }, record { le = le→leb low n (omega arith) })

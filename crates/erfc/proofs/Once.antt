@@ -16,7 +16,7 @@ use Rattle.erfc.proofs.Ups.{scaled_up_lem}
 use Rattle.erfc.proofs.Downs.{scaled_down_lem}
 
 -- a multiple of 2 ^ 970 of 53 digits is 2 ^ 970 times a number of 53 digits
-divided : (n m j c : ℕ) → m < 2 ^ 53 → n ≡ m * 2 ^ j → n ≡ c * 2 ^ 970 → (q : ℕ) × (k : ℕ) × (q < 2 ^ 53) × (n ≡ q * 2 ^ k * 2 ^ 970)
+pub divided : (n m j c : ℕ) → m < 2 ^ 53 → n ≡ m * 2 ^ j → n ≡ c * 2 ^ 970 → (q : ℕ) × (k : ℕ) × (q < 2 ^ 53) × (n ≡ q * 2 ^ k * 2 ^ 970)
 divided n m j c small e g = elim (order 970 j) [
   | inl h ↦ (
     m,

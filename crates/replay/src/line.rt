@@ -35,10 +35,12 @@ fn digit(b: u8) -> Option<u64>
     ensures value { result ≡ digit_of b }
     ensures bound { OnSome result (λ d. d < 16) }
 {
-    match b {
-        b'0'..=b'9' => Some(u64::from(b - b'0')),
-        b'a'..=b'f' => Some(u64::from(b - b'a') + 10),
-        _ => None,
+    if b.is_ascii_digit() {
+        Some(u64::from(b - b'0'))
+    } else if matches!(b, b'a'..=b'f') {
+        Some(u64::from(b - b'a' + 10))
+    } else {
+        None
     }
 }
 

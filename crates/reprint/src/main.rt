@@ -7,7 +7,7 @@ use double_double::plain::Plain;
 use erfc::answer::Refusal;
 use replay::compare::{Comparison, Counts, Expected, replay};
 use replay::line::{LENGTH, Line, Malformed};
-use std::io::{BufRead, BufReader, Read};
+use std::io::{BufReader, Read};
 use std::{fmt, io};
 
 // An answer that differs from the expected one.
@@ -88,31 +88,42 @@ impl From<Malformed> for ReadError {
     }
 }
 
-// The next line, or none at the end of the input.
-fn next_line(input: &mut impl BufRead, bytes: &mut Vec<u8>) -> Result<Option<Line>, ReadError> {
-    bytes.clear();
-    input.by_ref().take(LENGTH as u64).read_until(b'\n', bytes)?;
-    if bytes.is_empty() {
-        return Ok(None);
+// The next bytes of the input, as many as a line has or as are left. The loop stays, since `read_exact` and `read_until` try again where a read is interrupted, which is an error of the input here as any other.
+fn fill(input: &mut impl Read, bytes: &mut [u8; LENGTH]) -> io::Result<usize> {
+    let mut have = 0usize;
+    for _ in 0..LENGTH {
+        if have >= LENGTH {
+            break;
+        }
+        let n = input.read(&mut bytes[have..])?;
+        if n == 0 {
+            break;
+        }
+        have += n;
     }
-    Ok(Some(Line::try_from(bytes.as_slice())?))
+    Ok(have)
 }
 
-fn report(rt: &impl Print, difference: Option<Difference>) -> io::Result<()> {
-    if let Some(difference) = difference {
-        println!(rt; "{difference}")?;
+// The next line, or none at the end of the input. Its bytes are all read before they are looked at, so that an error of the input goes before a fault of theirs.
+fn next_line(input: &mut impl Read) -> Result<Option<Line>, ReadError> {
+    let mut bytes = [0u8; LENGTH];
+    let have = fill(input, &mut bytes)?;
+    if have == 0 {
+        return Ok(None);
     }
-    Ok(())
+    if have < LENGTH {
+        return Err(Malformed.into());
+    }
+    Ok(Some(Line::try_from(&bytes[..])?))
 }
 
 fn main(rt: HostRuntime) -> anyhow::Result<()> {
     let mut input = BufReader::new(rt.alloc(), rt.stdin())?;
-    let mut bytes = Vec::new(rt.alloc());
     let mut plain = Side::new("plain", Plain);
     let mut fused = Side::new("fused", Fused);
     let mut refused = 0u64;
     for number in 1..u64::MAX {
-        let line = match next_line(&mut input, &mut bytes) {
+        let line = match next_line(&mut input) {
             Ok(Some(line)) => line,
             Ok(None) => break,
             Err(ReadError::Malformed(fault)) => {
@@ -125,15 +136,16 @@ fn main(rt: HostRuntime) -> anyhow::Result<()> {
             argument: line.argument,
             answer: line.plain,
         }) {
-            Ok(difference) => report(&rt, difference)?,
+            Ok(Some(difference)) => println!(rt; "{difference}")?,
+            Ok(None) => {}
             // fused refuses it too
             Err(_) => refused = refused.saturating_add(1),
         }
-        if let Ok(difference) = fused.take(Expected {
+        if let Ok(Some(difference)) = fused.take(Expected {
             argument: line.argument,
             answer: line.fused,
         }) {
-            report(&rt, difference)?;
+            println!(rt; "{difference}")?;
         }
     }
     println!(rt; "{plain}")?;
