@@ -30,7 +30,7 @@ impl fmt::Display for Malformed {
 
 impl Error for Malformed {}
 
-// Lowercase alone: the library's digits are capitals too.
+// Lowercase alone: the library's digits are capitals too. Two tests, since a `match` over both ranges compares three times a digit.
 fn digit(b: u8) -> Option<u64>
     ensures value { result ≡ digit_of b }
     ensures bound { OnSome result (λ d. d < 16) }
